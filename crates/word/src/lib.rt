@@ -1,0 +1,10 @@
+// The values that every layer speaks of: words, identifiers, parities and services.
+mod identifier;
+mod parity;
+mod service;
+mod word;
+
+pub use identifier::Identifier;
+pub use parity::Parity;
+pub use service::Service;
+pub use word::Word;
