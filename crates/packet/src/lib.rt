@@ -3,7 +3,11 @@ mod fault;
 mod header;
 
 pub use fault::HeaderFault;
+pub use fault::HeaderFaultDebug;
+pub use fault::HeaderFaultPartialEq;
 pub use fault::PacketFault;
+pub use fault::PacketFaultDebug;
+pub use fault::PacketFaultPartialEq;
 pub use header::AdaptationControl;
 pub use header::Header;
 pub use header::ScramblingControl;

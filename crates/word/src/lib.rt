@@ -6,5 +6,8 @@ mod word;
 
 pub use identifier::Identifier;
 pub use parity::Parity;
+pub use parity::ParityDebug;
+pub use parity::ParityPartialEq;
 pub use service::Service;
 pub use word::Word;
+pub use word::WordPartialEq;
