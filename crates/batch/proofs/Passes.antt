@@ -16,7 +16,7 @@ use Rattle.std.proofs.shelf.Parts.{take-putMid, drop-putMid}
 use Rattle.std.specs.declared.option.Option.{Option}
 use Rattle.std.specs.declared.result.Result.{Result}
 use Rattle.std.specs.declared.result.Result.the-variants.{Ok, Err}
-use Rattle.batch.specs.Packets.{packets, packetAt, orElse, firstFault, changes, followed, allFollowed, changedCount, passedCount}
+use Rattle.batch.specs.Packets.{packets, packetAt, replaced, orElse, firstFault, changes, followed, allFollowed, changedCount, passedCount}
 
 pub packets-length : (xs : List ℕ) → length (packets xs) ≡ length xs / 188
 packets-length xs = length-map-counting (packetAt xs) 0 (length xs / 188)
@@ -66,21 +66,32 @@ pub joined-step : (f : List ℕ → List ℕ) (g : ℕ → List ℕ) (i : ℕ)
 joined-step f g i =
     ap (joined f) (map-counting-more g 0 i i (zero-add i)) ∙ sym (joined-more f [] (map g (counting 0 i)) (g i))
 
-pub change-step : (f : List ℕ → List ℕ) (e b q : List ℕ) (i : ℕ) → i < length e / 188 → length b ≡ length e
+-- the part at a packet's place, written over
+pub put-is : (b q : List ℕ) (i at : ℕ) → at ≡ 188 * i → putMid at (at + 188 - at) b q ≡ replaced b i q
+put-is b q i at e =
+    let k : at + 188 - at ≡ 188 = omega arith in
+    ap (λ (n : ℕ). take at b ++ (q ++ drop n (drop at b))) k ∙ ap (λ (n : ℕ). take n b ++ (q ++ drop 188 (drop n b))) e
+
+pub change-step : (f : List ℕ → List ℕ) (e b : List ℕ) (i : ℕ) → i < length e / 188 → length b ≡ length e
     → take (188 * i) b ≡ joined f (map (packetAt e) (counting 0 i))
     → drop (188 * i) b ≡ drop (188 * i) e
-    → q ≡ f (take (188 * i + 188 - 188 * i) (drop (188 * i) b))
-    → length q ≡ 188
-    → (take (188 * (i + 1)) (putMid (188 * i) (188 * i + 188 - 188 * i) b q) ≡ joined f (map (packetAt e) (counting 0 (i + 1))))
-    × (drop (188 * (i + 1)) (putMid (188 * i) (188 * i + 188 - 188 * i) b q) ≡ drop (188 * (i + 1)) e)
-change-step f e b q i lt long front back new size = (
-  take-putMid (188 * i) (188 * i + 188 - 188 * i) b q (188 * (i + 1)) (omega arith) (omega arith)
-      ∙ ap (λ (z : List ℕ). z ++ q) front
-      ∙ ap (λ (z : List ℕ). joined f (map (packetAt e) (counting 0 i)) ++ z) (new ∙ ap f (part-of e b i back))
-      ∙ sym (joined-step f (packetAt e) i),
-  drop-putMid (188 * i) (188 * i + 188 - 188 * i) b q (188 * (i + 1)) (omega arith) (omega arith) (omega arith)
-      ∙ at-next b ∙ ap (drop 188) back ∙ sym (at-next e),
-)
+    → length (f (packetAt e i)) ≡ 188
+    → (take (188 * (i + 1)) (replaced b i (f (packetAt b i))) ≡ joined f (map (packetAt e) (counting 0 (i + 1))))
+    × (drop (188 * (i + 1)) (replaced b i (f (packetAt b i))) ≡ drop (188 * (i + 1)) e)
+change-step f e b i lt long front back size =
+    let q : List ℕ = f (packetAt b i) in
+    let part : packetAt b i ≡ packetAt e i = ap (take 188) back in
+    let put : putMid (188 * i) (188 * i + 188 - 188 * i) b q ≡ replaced b i q = put-is b q i (188 * i) refl in
+    let qs : length q ≡ 188 = ap (λ (p : List ℕ). length (f p)) part ∙ size in (
+      ap (take (188 * (i + 1))) (sym put)
+          ∙ take-putMid (188 * i) (188 * i + 188 - 188 * i) b q (188 * (i + 1)) (omega arith) (omega arith)
+          ∙ ap (λ (z : List ℕ). z ++ q) front
+          ∙ ap (λ (z : List ℕ). joined f (map (packetAt e) (counting 0 i)) ++ f z) part
+          ∙ sym (joined-step f (packetAt e) i),
+      ap (drop (188 * (i + 1))) (sym put)
+          ∙ drop-putMid (188 * i) (188 * i + 188 - 188 * i) b q (188 * (i + 1)) (omega arith) (omega arith) (omega arith)
+          ∙ at-next b ∙ ap (drop 188) back ∙ sym (at-next e),
+    )
   where
     at-next : (xs : List ℕ) → drop (188 * (i + 1)) xs ≡ drop 188 (drop (188 * i) xs)
     at-next xs =

@@ -28,15 +28,20 @@ use Rattle.batch.specs.declared.plan.Direction.the-variants.{Scramble, Descram
 use Rattle.batch.specs.declared.plan.Objection.{Objection}
 use Rattle.batch.specs.declared.plan.Objection.the-variants as objection
 
--- the control bits of a parity
-abbrev pub controlFor : Parity → ScramblingControl
-controlFor parity.Even = control.Even
-controlFor parity.Odd = control.Odd
+-- the control bits of a packet after it was changed: its parity's, or 00
+abbrev pub controlAfter : Direction → Parity → ScramblingControl
+controlAfter Scramble parity.Even = control.Even
+controlAfter Scramble parity.Odd = control.Odd
+controlAfter Descramble q = control.Clear
 
--- a packet changed: the control bits set, the payload scrambled or descrambled, all other bytes as they were
+-- a payload after it was changed
+abbrev pub payloadAfter : Direction → Meaning → Word → List ℕ → List ℕ
+payloadAfter Scramble = scrambled
+payloadAfter Descramble = descrambled
+
+-- a packet changed: the control bits, the payload, and all other bytes as they were
 abbrev pub changed : Direction → Meaning → Change → List ℕ → List ℕ
-changed Scramble m c p = take (c .start) (withControl (controlFor (c .parity)) p) ++ scrambled m (c .word) (drop (c .start) p)
-changed Descramble m c p = take (c .start) (withControl control.Clear p) ++ descrambled m (c .word) (drop (c .start) p)
+changed d m c p = take (c .start) (withControl (controlAfter d (c .parity)) p) ++ payloadAfter d m (c .word) (drop (c .start) p)
 
 -- a batch after an accepted call
 abbrev pub batchAfter : Direction → Meaning → Keys → List ℕ → List ℕ

@@ -1,6 +1,6 @@
 -- A batch of packets under a plan for each: the first that the plan refuses decides, else each is changed as planned.
 use mathlib.Core.Bool.{Bool, true, false, cond}
-use mathlib.Core.List.{List, [], _∷_, map}
+use mathlib.Core.List.{List, [], _∷_, _++_, map}
 use Prim.Native.Nat.{ℕ, _+_, _*_, _/_}
 use lib.ListN.{length, take, drop}
 use Rattle.std.specs.Iters.{counting}
@@ -13,6 +13,10 @@ use Rattle.std.specs.shelf.Lists.{joined, sumBy}
 -- the packet at place i of a batch
 abbrev pub packetAt : List ℕ → ℕ → List ℕ
 packetAt batch i = take 188 (drop (188 * i) batch)
+
+-- a batch with another packet at place i
+abbrev pub replaced : List ℕ → ℕ → List ℕ → List ℕ
+replaced batch i packet = take (188 * i) batch ++ (packet ++ drop 188 (drop (188 * i) batch))
 
 -- the packets of a batch
 abbrev pub packets : List ℕ → List (List ℕ)

@@ -7,10 +7,11 @@ ghost use lib.ListN.{length, replicate};
 ghost use Rattle.std.specs.Results.{isOk};
 ghost use Rattle.cipher.specs.Profiles.{meaning};
 ghost use Rattle.packet.specs.Header.{headerOf};
-ghost use Rattle.batch.specs.Batches.{controlFor, changed, batchAfter, objectionAt, fits, batchAnswer, Batched};
-ghost use Rattle.batch.specs.Packets.{packets, firstFault, changes, followed, allFollowed, changedCount, passedCount};
+ghost use Rattle.batch.specs.Batches.{controlAfter, payloadAfter, changed, batchAfter, objectionAt, batchAnswer, Batched};
+ghost use Rattle.batch.specs.Packets.{packetAt, packets, replaced, firstFault, changes, followed, changedCount, passedCount};
 ghost use Rattle.batch.specs.Plan.{keysOf, planOf};
 ghost use Rattle.batch.specs.Prepared.{Prepared};
+ghost use Rattle.word.specs.declared.word.Word.{Word};
 ghost use Rattle.batch.specs.declared.plan.Direction.the-variants.{Scramble, Descramble};
 use crate::fault::BatchFault;
 use crate::guard::KeyArea;
@@ -112,7 +113,7 @@ fn objection_at(packet: usize, objection: Objection) -> BatchFault
 fn test_all<K: Keyring>(direction: Direction, keys: &K, batch: &[u8]) -> Result<(), BatchFault>
     ensures { λ r. ⌜ r ≡ firstFault (planOf direction (keysOf K·Keyring (now (keys .entry)))) objectionAt 0 (packets (now (batch .entry))) ⌝ }
 {
-    let n = batch.len() / PACKET;
+    let n = packet_count(batch);
     for i in 0..n {
         let header = header_of(&batch[PACKET * i..PACKET * i + PACKET]);
         match plan(direction, keys, header) {
@@ -141,41 +142,49 @@ fn prepare<C: Cipher>(cipher: &C, word: Word, prepared: &mut Option<Word>, area:
     *prepared = Some(word);
 }
 
-fn control_for(parity: Parity) -> ScramblingControl
-    ensures { λ r. ⌜ r ≡ controlFor parity ⌝ }
+// The control bits of a packet after it was changed.
+fn control_after(direction: Direction, parity: Parity) -> ScramblingControl
+    ensures { λ r. ⌜ r ≡ controlAfter direction parity ⌝ }
 {
-    match parity {
-        Parity::Even => ScramblingControl::Even,
-        Parity::Odd => ScramblingControl::Odd,
+    match (direction, parity) {
+        (Direction::Scramble, Parity::Even) => ScramblingControl::Even,
+        (Direction::Scramble, Parity::Odd) => ScramblingControl::Odd,
+        (Direction::Descramble, _) => ScramblingControl::Clear,
     }
+}
+
+// Scrambles or descrambles a payload. The area is a schedule, so its length is not refused.
+fn change_payload<C: Cipher, T: TailRule>(
+    direction: Direction,
+    profile: &Profile<C, T>,
+    area: &[u8],
+    payload: &mut [u8],
+)
+    ensures { λ _. ⌜ ((w : Word) → now (area .entry) ≡ C·Cipher .schedule (now (profile .entry) .cipher) w → now (payload .exit) ≡ payloadAfter direction (meaning C·Cipher T·TailRule (now (profile .entry))) w (now (payload .entry))) ⌝ }
+{
+    let _ = match direction {
+        Direction::Scramble => profile.scramble_payload(area, payload),
+        Direction::Descramble => profile.descramble_payload(area, payload),
+    };
 }
 
 // Changes a packet under the word whose schedule the area holds.
 fn change<C: Cipher, T: TailRule>(
     direction: Direction,
     profile: &Profile<C, T>,
-    change: Change,
+    how: Change,
     area: &[u8],
     packet: &mut [u8],
 )
     requires size { ⌜ length (now packet) ≡ 188 ⌝ }
-    requires low { ⌜ 4 ≤ change .start ⌝ }
-    requires high { ⌜ change .start ≤ 188 ⌝ }
-    requires prepared { ⌜ now area ≡ C·Cipher .schedule (now profile .cipher) (change .word) ⌝ }
-    ensures { λ _. ⌜ now (packet .exit) ≡ changed direction (meaning C·Cipher T·TailRule (now (profile .entry))) change (now (packet .entry)) ⌝ }
+    requires low { ⌜ 4 ≤ how .start ⌝ }
+    requires high { ⌜ how .start ≤ 188 ⌝ }
+    requires prepared { ⌜ now area ≡ C·Cipher .schedule (now profile .cipher) (how .word) ⌝ }
+    ensures { λ _. ⌜ now (packet .exit) ≡ changed direction (meaning C·Cipher T·TailRule (now (profile .entry))) how (now (packet .entry)) ⌝ }
 {
-    let start = change.start;
-    // The area is a schedule, so neither call refuses its length.
-    match direction {
-        Direction::Scramble => {
-            set_control(packet, control_for(change.parity));
-            let _ = profile.scramble_payload(area, &mut packet[start..188]);
-        }
-        Direction::Descramble => {
-            set_control(packet, ScramblingControl::Clear);
-            let _ = profile.descramble_payload(area, &mut packet[start..188]);
-        }
-    }
+    let start = how.start;
+    set_control(packet, control_after(direction, how.parity));
+    change_payload(direction, profile, area, &mut packet[start..188]);
 }
 
 // Does to a packet what its plan says, and answers whether that changed it.
@@ -205,6 +214,42 @@ fn follow<C: Cipher, T: TailRule, K: Keyring>(
     }
 }
 
+// Does to the packet at place `i` of the batch what its plan says.
+fn follow_at<C: Cipher, T: TailRule, K: Keyring>(
+    direction: Direction,
+    profile: &Profile<C, T>,
+    keys: &K,
+    prepared: &mut Option<Word>,
+    area: &mut [u8],
+    batch: &mut [u8],
+    i: usize,
+) -> bool
+    requires long { ⌜ length (now area) ≡ C·Cipher .scheduleLength ⌝ }
+    requires prepared { ⌜ Prepared (C·Cipher .schedule (now profile .cipher)) (now prepared) (now area) ⌝ }
+    requires inside { ⌜ i < length (now batch) / 188 ⌝ }
+    ensures after { λ _. ⌜ now (batch .exit) ≡ replaced (now (batch .entry)) i (followed (planOf direction (keysOf K·Keyring (now (keys .entry)))) (changed direction (meaning C·Cipher T·TailRule (now (profile .entry)))) (packetAt (now (batch .entry)) i)) ⌝ }
+    ensures size { λ _. ⌜ length (followed (planOf direction (keysOf K·Keyring (now (keys .entry)))) (changed direction (meaning C·Cipher T·TailRule (now (profile .entry)))) (packetAt (now (batch .entry)) i)) ≡ 188 ⌝ }
+    ensures value { λ r. ⌜ r ≡ changes (planOf direction (keysOf K·Keyring (now (keys .entry))) (packetAt (now (batch .entry)) i)) ⌝ }
+    ensures prepared { λ _. ⌜ Prepared (C·Cipher .schedule (now (profile .entry) .cipher)) (now (prepared .exit)) (now (area .exit)) ⌝ }
+{
+    let at = PACKET * i;
+    follow(
+        direction,
+        profile,
+        keys,
+        prepared,
+        area,
+        &mut batch[at..at + PACKET],
+    )
+}
+
+// How many packets a batch has.
+fn packet_count(batch: &[u8]) -> usize
+    ensures { λ r. ⌜ r ≡ length (now (batch .entry)) / 188 ⌝ }
+{
+    batch.len() / PACKET
+}
+
 // Does to every packet what its plan says, and counts those changed and those passed.
 fn change_all<C: Cipher, T: TailRule, K: Keyring>(
     direction: Direction,
@@ -218,19 +263,12 @@ fn change_all<C: Cipher, T: TailRule, K: Keyring>(
     ensures after { λ _. ⌜ now (batch .exit) ≡ batchAfter direction (meaning C·Cipher T·TailRule (now (profile .entry))) (keysOf K·Keyring (now (keys .entry))) (now (batch .entry)) ⌝ }
     ensures value { λ r. ⌜ r ≡ (changedCount (planOf direction (keysOf K·Keyring (now (keys .entry)))) (packets (now (batch .entry))), passedCount (planOf direction (keysOf K·Keyring (now (keys .entry)))) (packets (now (batch .entry)))) ⌝ }
 {
-    let n = batch.len() / PACKET;
+    let n = packet_count(batch);
     let mut prepared = None;
     let mut changed = 0;
     let mut passed = 0;
     for i in 0..n {
-        if follow(
-            direction,
-            profile,
-            keys,
-            &mut prepared,
-            area,
-            &mut batch[PACKET * i..PACKET * i + PACKET],
-        ) {
+        if follow_at(direction, profile, keys, &mut prepared, area, batch, i) {
             changed += 1;
         } else {
             passed += 1;

@@ -6,12 +6,12 @@ ghost use Rattle.batch.specs.declared.plan.Objection.the-variants.{BadHeader};
 use crate::keyring::Keyring;
 use packet::Header;
 use packet::HeaderFault;
+use packet::HeaderFaultDebug;
+use packet::HeaderFaultPartialEq;
 use packet::ScramblingControl;
 use word::Parity;
 use word::Service;
 use word::Word;
-use packet::HeaderFaultDebug;
-use packet::HeaderFaultPartialEq;
 
 /// Which way a batch goes.
 #[derive(Clone, Copy, Debug, PartialEq, Eq)]

@@ -3,23 +3,22 @@ use native.Mathlib.Omega.{arith}
 use mathlib.Core.Bool.{Bool, true, false, cond}
 use mathlib.Core.List.{List, map}
 use mathlib.Core.Path.{_≡_, sym, ap, _∙_}
-use lib.ListN.{length}
+use lib.ListN.{length, take, drop}
 use Rattle.std.specs.Iters.{counting}
 use Rattle.cipher.specs.Profiles.{meaning}
 use Rattle.batch.specs.Batches.{changed}
 use Rattle.batch.specs.Packets.{packetAt, packets, changes, followed, changedCount, passedCount}
 use Rattle.batch.specs.Plan.{keysOf, planOf}
-use Rattle.batch.proofs.Passes.{part-of, packet-length, change-step, changed-more, passed-more, change-all}
+use Rattle.batch.proofs.Passes.{change-step, changed-more, passed-more, change-all}
 use Rattle.batch.proofs.pass.change_all.Needs as need
-use Rattle.batch.proofs.pass.change_all.Needs.{then-follow, else-follow}
+use Rattle.batch.proofs.pass.change_all.Needs.{then-follow-at, else-follow-at}
 
-pub follow-requires : need.follow-requires
-follow-requires g c κs =
-    let part = part-of (c .args .batch .now) (c .loop-i .batch) (c .loop-i .i) (c .loop-i .inv .1) in
+pub follow-at-requires : need.follow-at-requires
+follow-at-requires g c κs =
     record {
       long = c .loop-i .kept .area ∙ c .pre .long;
       prepared = c .loop-i .inv .5;
-      size = ap length part ∙ packet-length (c .args .batch .now) (c .loop-i .i) (c .loop-i-test .taken);
+      inside = omega arith;
     }
 
 pub loop-i-again : need.loop-i-again
@@ -27,20 +26,25 @@ loop-i-again g c =
     let m = meaning (g .C·Cipher) (g .T·TailRule) (c .args .profile .now) in
     let plan = planOf (c .args .direction) (keysOf (g .K·Keyring) (c .args .keys .now)) in
     let f = followed plan (changed (c .args .direction) m) in
-    let part = part-of (c .args .batch .now) (c .loop-i .batch) (c .loop-i .i) (c .loop-i .inv .1) in
-    let test = c .follow .ensures .value ∙ ap (λ (p : List ℕ). changes (plan p)) part in
-    let size = c .follow .kept .packet ∙ ap length part ∙ packet-length (c .args .batch .now) (c .loop-i .i) (c .loop-i-test .taken) in
-    let s = change-step f (c .args .batch .now) (c .loop-i .batch) (c .follow .last .packet) (c .loop-i .i) (c .loop-i-test .taken) (c .loop-i .kept .batch) (c .loop-i .inv .0) (c .loop-i .inv .1) (c .follow .ensures .after) size in
-    let counts : (b : Bool) → c .follow .result ≡ b → (c .loop-i .changed + cond b 1 0 ≡ changedCount plan (map (packetAt (c .args .batch .now)) (counting 0 (c .loop-i .i + 1)))) × (c .loop-i .passed + cond b 0 1 ≡ passedCount plan (map (packetAt (c .args .batch .now)) (counting 0 (c .loop-i .i + 1))))
-        = λ b e. ( changed-more plan (c .args .batch .now) (c .loop-i .i) (c .loop-i .changed) b (sym e ∙ test) (c .loop-i .inv .2)
-                 , passed-more plan (c .args .batch .now) (c .loop-i .i) (c .loop-i .passed) b (sym e ∙ test) (c .loop-i .inv .3) ) in
-    elim (c .if-follow .came)
-    [ then-follow w ↦
-        let n = counts true (w .if-follow .taken) in
-        (s .0, s .1, omega (arith, n .0, w .changed-is), omega (arith, n .1, w .passed-is), omega (arith, w .changed-is, w .passed-is), c .follow .ensures .prepared)
-    | else-follow w ↦
-        let n = counts false (w .if-follow .left) in
-        (s .0, s .1, omega (arith, n .0, w .changed-is), omega (arith, n .1, w .passed-is), omega (arith, w .changed-is, w .passed-is), c .follow .ensures .prepared)
+    let e = c .args .batch .now in
+    let b = c .loop-i .batch in
+    let i = c .loop-i .i in
+    let inside : i < length e / 188 = omega arith in
+    let part : packetAt b i ≡ packetAt e i = ap (take 188) (c .loop-i .inv .1) in
+    let test = c .follow-at .ensures .value ∙ ap (λ (p : List ℕ). changes (plan p)) part in
+    let size = ap (λ (p : List ℕ). length (f p)) (sym part) ∙ c .follow-at .ensures .size in
+    let step = change-step f e b i inside (c .loop-i .kept .batch) (c .loop-i .inv .0) (c .loop-i .inv .1) size in
+    let front = ap (take (188 * (i + 1))) (c .follow-at .ensures .after) ∙ step .0 in
+    let back = ap (drop (188 * (i + 1))) (c .follow-at .ensures .after) ∙ step .1 in
+    let counts : (v : Bool) → c .follow-at .result ≡ v → (c .loop-i .changed + cond v 1 0 ≡ changedCount plan (map (packetAt e) (counting 0 (i + 1)))) × (c .loop-i .passed + cond v 0 1 ≡ passedCount plan (map (packetAt e) (counting 0 (i + 1))))
+    = λ v h. (changed-more plan e i (c .loop-i .changed) v (sym h ∙ test) (c .loop-i .inv .2), passed-more plan e i (c .loop-i .passed) v (sym h ∙ test) (c .loop-i .inv .3)) in
+    elim (c .if-follow-at .came) [
+      | then-follow-at w ↦
+          let n = counts true (w .if-follow-at .taken) in
+          (front, back, omega (arith, n .0, w .changed-is), omega (arith, n .1, w .passed-is), omega (arith, w .changed-is, w .passed-is), c .follow-at .ensures .prepared)
+      | else-follow-at w ↦
+          let n = counts false (w .if-follow-at .left) in
+          (front, back, omega (arith, n .0, w .changed-is), omega (arith, n .1, w .passed-is), omega (arith, w .changed-is, w .passed-is), c .follow-at .ensures .prepared)
     ]
 
 pub returns : need.returns
