@@ -1,0 +1,10 @@
+pub mod Answered
+pub mod Digits
+pub mod Inverts
+pub mod Keys
+pub mod Lawfulness
+pub mod Parity
+pub mod Permutations
+pub mod Selections
+pub mod Shifts
+pub mod Tested

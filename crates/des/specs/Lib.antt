@@ -1,0 +1,6 @@
+pub mod Bits
+pub mod Cipher
+pub mod Laws
+pub mod Schedule
+pub mod Tables
+pub mod Vectors
