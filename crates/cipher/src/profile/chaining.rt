@@ -33,7 +33,8 @@ impl<C: Cipher, T: TailRule> Profile<C, T> {
             return Err(ScheduleLength { length: area.len() });
         }
         let width = self.cipher.block_len();
-        let mut chain = self.iv;
+        let mut chain = [0; 16];
+        self.start_chain(&mut chain);
         self.chain_blocks(area, &mut chain[0..width], payload);
         Ok(())
     }
@@ -48,9 +49,17 @@ impl<C: Cipher, T: TailRule> Profile<C, T> {
             return Err(ScheduleLength { length: area.len() });
         }
         let width = self.cipher.block_len();
-        let mut chain = self.iv;
+        let mut chain = [0; 16];
+        self.start_chain(&mut chain);
         self.unchain_blocks(area, &mut chain[0..width], payload);
         Ok(())
+    }
+
+    // The chain value starts as the initial vector in every payload, whatever stood there.
+    fn start_chain(&self, chain: &mut [u8; 16])
+        ensures { λ _. ⌜ now (chain .exit) ≡ now (self .entry) .iv ⌝ }
+    {
+        *chain = self.iv;
     }
 
     // The blocks of the payload from its start, then its tail under the mask E of the last chain value.

@@ -1,0 +1,53 @@
+// Scrambles, descrambles or rehearses a transport stream file, and prints what happened.
+mod command;
+mod keys;
+mod report;
+mod stream;
+mod tally;
+
+use command::BadCommand;
+use command::Command;
+use command::ProfileName;
+use profile::cissa_profile;
+use profile::des_profile;
+use profile::idsa_profile;
+use std::env;
+use std::error::AnyError;
+use cipher::ClearTailRule;
+use cipher::MaskedTailRule;
+use profile::Aes128Cipher;
+use profile::DesCipher;
+
+fn main(rt: LibcRuntime) -> Result<(), AnyError> {
+    rt.report(run(&rt))
+}
+
+fn run(rt: &LibcRuntime) -> Result<(), AnyError> {
+    let words: Vec<String> = env::args(rt)?.skip(1).collect(rt.alloc())?;
+    match command::parse(rt.alloc(), words.as_slice()) {
+        Ok(command) => carry_out(rt, &command),
+        Err(bad) => not_understood(rt, bad),
+    }
+}
+
+fn carry_out(rt: &LibcRuntime, command: &Command) -> Result<(), AnyError> {
+    match command.profile {
+        ProfileName::Cissa => stream::carry_out(rt, &cissa_profile(), command),
+        ProfileName::Idsa => stream::carry_out(rt, &idsa_profile(), command),
+        ProfileName::Des => stream::carry_out(rt, &des_profile(), command),
+    }
+}
+
+fn not_understood(rt: &LibcRuntime, bad: BadCommand) -> Result<(), AnyError> {
+    match bad {
+        BadCommand::Usage(what) => {
+            report::print_usage(rt)?;
+            Err(what.into())
+        }
+        BadCommand::Word(fault) => {
+            report::print_entry_refusal(rt, &fault.refusal())?;
+            Err("the word was refused".into())
+        }
+        BadCommand::NoMemory => Err("there is no memory".into()),
+    }
+}

@@ -1,0 +1,235 @@
+// A stream file, in batches of 64 packets, so that memory does not grow with it.
+ghost use Prim.Native.Nat.{_≤_};
+ghost use lib.ListN.{length};
+ghost use Rattle.std.specs.Vec.{made};
+use batch::BatchFault;
+use batch::descramble;
+use batch::scramble;
+use cipher::Cipher;
+use cipher::Profile;
+use cipher::TailRule;
+use crate::command::Command;
+use crate::command::Task;
+use crate::keys::OneWord;
+use crate::keys::OneWordKeyring;
+use crate::report;
+use crate::tally::Tally;
+use std::error::AnyError;
+use std::fs::File;
+use std::io;
+use std::io::Read;
+use std::io::Write;
+use std::rt::Files;
+
+/// 64 packets.
+const BATCH: usize = 12032;
+
+// After so many packets a line on standard error says how far the run is.
+const PROGRESS: u64 = 1 << 20;
+
+// Memory for the longest schedule that a cipher may have.
+const LONGEST_SCHEDULE: usize = 4096;
+
+/// Carries out a command under its profile.
+pub fn carry_out<C: Cipher, T: TailRule>(
+    rt: &LibcRuntime,
+    profile: &Profile<C, T>,
+    command: &Command,
+) -> Result<(), AnyError> {
+    match command.task {
+        Task::Scramble | Task::Descramble => {
+            let tally = convert(rt, profile, command)?;
+            report::print_tally(rt, command, &tally)?;
+        }
+        Task::Rehearse => {
+            let tally = work_through(rt, profile, command, &mut Destination::Nowhere)?;
+            report::print_tally(rt, command, &tally)?;
+            println!(rt, "every packet came back byte for byte")?;
+        }
+    }
+    Ok(())
+}
+
+/// Where a changed stream goes.
+#[derive(Drop)]
+enum Destination {
+    Nowhere,
+    Into(File),
+}
+
+// Reads until the buffer is full or the input ends, and answers how many bytes came.
+fn fill(input: &mut File, buffer: &mut [u8]) -> io::Result<usize>
+    ensures { λ r. ⌜ made r (λ n. n ≤ length (now (buffer .entry))) ⌝ }
+{
+    let mut filled = 0;
+    while filled < buffer.len() {
+        let n = input.read(&mut buffer[filled..])?;
+        if n == 0 {
+            break;
+        }
+        filled += n;
+    }
+    Ok(filled)
+}
+
+// Scrambles or descrambles a batch in place.
+fn change_batch<C: Cipher, T: TailRule>(task: Task, profile: &Profile<C, T>, keys: &OneWord, batch: &mut [u8]) -> Result<(usize, usize), BatchFault> {
+    let mut memory = [0; LONGEST_SCHEDULE];
+    let n = profile.cipher.schedule_len();
+    let area = &mut memory[0..n];
+    match task {
+        Task::Scramble | Task::Rehearse => scramble(profile, keys, area, batch),
+        Task::Descramble => descramble(profile, keys, area, batch),
+    }
+}
+
+// A refusal is printed whole; what is left to say is short.
+fn refused(rt: &LibcRuntime, fault: &BatchFault, done: u64) -> AnyError {
+    let refusal = fault.refusal();
+    match report::print_refusal(rt, &refusal, done) {
+        Ok(()) => "the stream was refused, and nothing was written".into(),
+        Err(error) => error.into(),
+    }
+}
+
+// Shows progress each time another million packets or so are done.
+fn progress(rt: &LibcRuntime, before: u64, after: u64) -> io::Result<()> {
+    if before / PROGRESS < after / PROGRESS {
+        return report::print_progress(rt, after);
+    }
+    Ok(())
+}
+
+// Writes the changed stream beside the output, and gives it its name once all of it is there.
+fn convert<C: Cipher, T: TailRule>(
+    rt: &LibcRuntime,
+    profile: &Profile<C, T>,
+    command: &Command,
+) -> Result<Tally, AnyError> {
+    let output = command.output.as_str();
+    let part = format!(rt.alloc(), "{output}.part")?;
+    match convert_into(rt, profile, command, part.as_str()) {
+        Ok(tally) => {
+            rt.rename(part.as_str(), output)?;
+            Ok(tally)
+        }
+        Err(error) => {
+            let _ = rt.remove_file(part.as_str());
+            Err(error)
+        }
+    }
+}
+
+fn convert_into<C: Cipher, T: TailRule>(
+    rt: &LibcRuntime,
+    profile: &Profile<C, T>,
+    command: &Command,
+    part: &str,
+) -> Result<Tally, AnyError> {
+    let mut destination = Destination::Into(File::create(rt, part)?);
+    let tally = work_through(rt, profile, command, &mut destination)?;
+    if let Destination::Into(file) = &mut destination {
+        file.flush()?;
+    }
+    Ok(tally)
+}
+
+// Takes the stream batch by batch. One that holds no packet is refused: it is no recording.
+fn work_through<C: Cipher, T: TailRule>(
+    rt: &LibcRuntime,
+    profile: &Profile<C, T>,
+    command: &Command,
+    destination: &mut Destination,
+) -> Result<Tally, AnyError> {
+    let mut input = File::open(rt, command.input.as_str())?;
+    let mut tally = Tally::new(rt.alloc());
+    let mut buffer = [0; BATCH];
+    each_batch(rt, profile, command, &mut input, destination, &mut buffer, &mut tally)?;
+    if tally.all.read == 0 {
+        return Err("the stream is empty".into());
+    }
+    Ok(tally)
+}
+
+fn each_batch<C: Cipher, T: TailRule>(
+    rt: &LibcRuntime,
+    profile: &Profile<C, T>,
+    command: &Command,
+    input: &mut File,
+    destination: &mut Destination,
+    buffer: &mut [u8],
+    tally: &mut Tally,
+) -> Result<(), AnyError> {
+    for _ in 0..u64::MAX {
+        let n = fill(input, buffer)?;
+        if n == 0 {
+            break;
+        }
+        let done = tally.all.read;
+        match destination {
+            Destination::Nowhere => rehearse_batch(rt, profile, command, &mut buffer[0..n], tally)?,
+            Destination::Into(file) => convert_batch(rt, profile, command, &mut buffer[0..n], file, tally)?,
+        }
+        progress(rt, done, tally.all.read)?;
+    }
+    Ok(())
+}
+
+fn convert_batch<C: Cipher, T: TailRule>(
+    rt: &LibcRuntime,
+    profile: &Profile<C, T>,
+    command: &Command,
+    batch: &mut [u8],
+    file: &mut File,
+    tally: &mut Tally,
+) -> Result<(), AnyError> {
+    let before = batch.to_vec(rt.alloc())?;
+    if let Err(fault) = change_batch(command.task, profile, &command.keys, batch) {
+        return Err(refused(rt, &fault, tally.all.read));
+    }
+    file.write_all(batch)?;
+    tally.add(before.as_slice(), batch)?;
+    Ok(())
+}
+
+// Scrambles a batch in memory, brings it back and compares every byte.
+fn rehearse_batch<C: Cipher, T: TailRule>(
+    rt: &LibcRuntime,
+    profile: &Profile<C, T>,
+    command: &Command,
+    batch: &mut [u8],
+    tally: &mut Tally,
+) -> Result<(), AnyError> {
+    let clear = batch.to_vec(rt.alloc())?;
+    let done = tally.all.read;
+    if let Err(fault) = change_batch(Task::Scramble, profile, &command.keys, batch) {
+        return Err(refused(rt, &fault, done));
+    }
+    tally.add(clear.as_slice(), batch)?;
+    if command.shows_packets {
+        show_changed(rt, clear.as_slice(), batch, done)?;
+    }
+    if let Err(fault) = change_batch(Task::Descramble, profile, &command.keys, batch) {
+        return Err(refused(rt, &fault, done));
+    }
+    if !same_bytes(clear.as_slice(), batch) {
+        return Err("a packet did not come back".into());
+    }
+    Ok(())
+}
+
+fn same_bytes(one: &[u8], other: &[u8]) -> bool {
+    one == other
+}
+
+// Prints the packets that differ.
+fn show_changed(rt: &LibcRuntime, before: &[u8], after: &[u8], done: u64) -> io::Result<()> {
+    let mut number = done;
+    for (was, is) in before.chunks(188).zip(after.chunks(188)) {
+        if was != is {
+            report::print_packet(rt, number, is)?;
+        }
+        number = number.saturating_add(1);
+    }
+    Ok(())
+}
