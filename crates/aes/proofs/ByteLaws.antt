@@ -1,4 +1,4 @@
--- What holds of each byte: its inverse, the S-boxes, the products by the coefficients of a column.
+-- What holds of each byte: its inverse, the S-boxes, and that InvMixColumns and MixColumns undo each other at a byte.
 use mathlib.Core.Path.{_≡_, refl, _∙_, ap₂}
 use Prim.Native.Nat.{ℕ, zero, suc, _/_, _<_}
 use native.Mathlib.Omega.{arith}
@@ -124,28 +124,3 @@ mix-invMix a b c d ha hb hc hd =
     (below (λ c. four (times 2) (times 3) (λ x. x) (λ x. x) (times 13 c) (times 11 c) (times 14 c) (times 9 c)) (λ c. 0) 256 tt c hc)
     (below (λ d. four (times 2) (times 3) (λ x. x) (λ x. x) (times 9 d) (times 13 d) (times 11 d) (times 14 d)) (λ d. 0) 256 tt d hd))
     ∙ xor-zero-r (bitXor a 0) ∙ xor-zero-r a
-
--- the products by the coefficients, as the code has them
-pub by-2 : (a : ℕ) → a < 256 → xtimes a ≡ times 2 a
-unfolding xtimes timesBits times
-by-2 a h = below xtimes (times 2) 256 tt a h
-
-pub by-3 : (a : ℕ) → a < 256 → bitXor (xtimes a) a ≡ times 3 a
-unfolding xtimes timesBits times
-by-3 a h = below (λ a. bitXor (xtimes a) a) (times 3) 256 tt a h
-
-pub by-9 : (a : ℕ) → a < 256 → bitXor (xtimes (xtimes (xtimes a))) a ≡ times 9 a
-unfolding xtimes timesBits times
-by-9 a h = below (λ a. bitXor (xtimes (xtimes (xtimes a))) a) (times 9) 256 tt a h
-
-pub by-b : (a : ℕ) → a < 256 → bitXor (xtimes (bitXor (xtimes (xtimes a)) a)) a ≡ times 11 a
-unfolding xtimes timesBits times
-by-b a h = below (λ a. bitXor (xtimes (bitXor (xtimes (xtimes a)) a)) a) (times 11) 256 tt a h
-
-pub by-d : (a : ℕ) → a < 256 → bitXor (xtimes (xtimes (bitXor (xtimes a) a))) a ≡ times 13 a
-unfolding xtimes timesBits times
-by-d a h = below (λ a. bitXor (xtimes (xtimes (bitXor (xtimes a) a))) a) (times 13) 256 tt a h
-
-pub by-e : (a : ℕ) → a < 256 → xtimes (bitXor (xtimes (bitXor (xtimes a) a)) a) ≡ times 14 a
-unfolding xtimes timesBits times
-by-e a h = below (λ a. xtimes (bitXor (xtimes (bitXor (xtimes a) a)) a)) (times 14) 256 tt a h

@@ -7,7 +7,6 @@ use lib.ListN.{length, getD}
 use Rattle.std.specs.Iters.{counting}
 use Rattle.std.specs.shelf.Lists.{All}
 use Rattle.aes.specs.State.{Bytes, byteAt, stateOf, columns}
-use Rattle.aes.specs.Steps.{columnFrom}
 use Rattle.aes.proofs.Rows.{exactly}
 
 abbrev pub Small : List ℕ → Type 0
@@ -79,10 +78,3 @@ module _ (f g : ℕ → ℕ → ℕ → ℕ → ℕ) (undoes : (a b c d : ℕ) �
   columns-undone s h =
       columns-are g (columns f s) refl ∙ ap (columnwise g) (columns-are f s (h .0))
       ∙ fours-undone s (exactly 16 Fours (λ a b c d e f g h i j k l m n o p. tt) s (h .0)) (h .1)
-
--- the rule at each of the four columns in place
-pub four-columns : (f : ℕ → ℕ → ℕ → ℕ → ℕ) (s : List ℕ) → length s ≡ 16 →
-    columnFrom f (columnFrom f (columnFrom f (columnFrom f s 0) 4) 8) 12 ≡ columns f s
-unfolding byteAt stateOf columns
-four-columns f =
-    exactly 16 (λ s. columnFrom f (columnFrom f (columnFrom f (columnFrom f s 0) 4) 8) 12 ≡ columns f s) (λ a b c d e f g h i j k l m n o p. refl)

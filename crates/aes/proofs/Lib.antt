@@ -1,7 +1,7 @@
 pub mod ByteLaws
 pub mod Columns
 pub mod FieldLaws
-pub mod InPlace
+pub mod Words
 pub mod KeyWords
 pub mod Rows
 pub mod Tables

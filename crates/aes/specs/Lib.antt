@@ -6,4 +6,4 @@ pub mod Laws
 pub mod Rounds
 pub mod SBox
 pub mod State
-pub mod Steps
+pub mod Words

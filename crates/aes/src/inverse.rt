@@ -1,70 +1,59 @@
-// InvCipher (FIPS 197, section 5.3), byte by byte.
+// InvCipher (FIPS 197, section 5.3), a column at a time.
 ghost use mathlib.Core.Path.{_≡_};
-ghost use Prim.Native.Nat.{_+_, _<_};
 ghost use lib.ListN.{length};
-ghost use Rattle.aes.specs.Inverse.{invSubBytes, invShiftRows, invMixByte, invMixColumns, invCipher};
-ghost use Rattle.aes.specs.Steps.{columnFrom};
-use crate::field::times_9;
-use crate::field::times_b;
-use crate::field::times_d;
-use crate::field::times_e;
+ghost use Rattle.aes.specs.Inverse.{invCipher, invCipherRound, invMixByte, invShiftRows, invSubBytes};
+ghost use Rattle.aes.specs.Rounds.{addRoundKey};
+ghost use Rattle.aes.specs.SBox.{invSBox};
+ghost use Rattle.aes.specs.State.{xorBytes};
+ghost use Rattle.aes.specs.Words.{columnOf, diagonal, stateBytes, wordBytes};
+use crate::inv_mix_table::inv_mixed;
 use crate::inv_s_box::inv_sub_byte;
-use crate::rounds::add_round_key;
+use crate::state::State;
+use crate::state::turned_sum;
 
-// InvSubBytes.
-fn inv_sub_bytes(state: &mut [u8])
-    ensures { λ _. ⌜ now (state .exit) ≡ invSubBytes (now (state .entry)) ⌝ }
+// A column after InvShiftRows, InvSubBytes and AddRoundKey, from the four columns that InvShiftRows takes its bytes from.
+fn inv_column(a: u32, b: u32, c: u32, d: u32, key: u32) -> u32
+    ensures { λ r. ⌜ wordBytes r ≡ xorBytes (diagonal invSBox a b c d) (wordBytes key) ⌝ }
 {
-    for b in state.iter_mut() {
-        *b = inv_sub_byte(*b);
+    let p = inv_sub_byte(a.to_le_bytes()[0]);
+    let q = inv_sub_byte(b.to_le_bytes()[1]);
+    let r = inv_sub_byte(c.to_le_bytes()[2]);
+    let s = inv_sub_byte(d.to_le_bytes()[3]);
+    u32::from_le_bytes([p, q, r, s]) ^ key
+}
+
+// InvMixColumns at one column.
+fn inv_mix_column(x: u32) -> u32
+    ensures { λ r. ⌜ wordBytes r ≡ columnOf invMixByte (wordBytes x) ⌝ }
+{
+    let [a, b, c, d] = x.to_le_bytes();
+    turned_sum(inv_mixed(a), inv_mixed(b), inv_mixed(c), inv_mixed(d))
+}
+
+// InvShiftRows, InvSubBytes and AddRoundKey.
+fn last_inv_round(state: State, key: State) -> State
+    ensures { λ r. ⌜ stateBytes r ≡ addRoundKey (invSubBytes (invShiftRows (stateBytes state))) (stateBytes key) ⌝ }
+{
+    let State { c0, c1, c2, c3 } = state;
+    State {
+        c0: inv_column(c0, c3, c2, c1, key.c0),
+        c1: inv_column(c1, c0, c3, c2, key.c1),
+        c2: inv_column(c2, c1, c0, c3, key.c2),
+        c3: inv_column(c3, c2, c1, c0, key.c3),
     }
 }
 
-// InvShiftRows.
-fn inv_shift_rows(state: &mut [u8])
-    requires { ⌜ length (now state) ≡ 16 ⌝ }
-    ensures { λ _. ⌜ now (state .exit) ≡ invShiftRows (now (state .entry)) ⌝ }
+// A round but the last.
+fn inv_cipher_round(state: State, key: State) -> State
+    ensures { λ r. ⌜ stateBytes r ≡ invCipherRound (stateBytes key) (stateBytes state) ⌝ }
 {
-    let mut before = [0; 16];
-    before.copy_from_slice(state);
-    for i in 0..16 {
-        let row = i % 4;
-        let column = i / 4;
-        state[i] = before[4 * ((column + 4 - row) % 4) + row];
+    let State { c0, c1, c2, c3 } = last_inv_round(state, key);
+    State {
+        c0: inv_mix_column(c0),
+        c1: inv_mix_column(c1),
+        c2: inv_mix_column(c2),
+        c3: inv_mix_column(c3),
     }
-}
-
-// A byte of a column after InvMixColumns.
-fn inv_mix_byte(a: u8, b: u8, c: u8, d: u8) -> u8
-    ensures { λ r. ⌜ r ≡ invMixByte a b c d ⌝ }
-{
-    (times_e(a) ^ times_b(b)) ^ (times_d(c) ^ times_9(d))
-}
-
-// InvMixColumns at the column from place `j` on.
-fn inv_mix_column(state: &mut [u8], j: usize)
-    requires { ⌜ j + 3 < length (now state) ⌝ }
-    ensures { λ _. ⌜ now (state .exit) ≡ columnFrom invMixByte (now (state .entry)) j ⌝ }
-{
-    let a = state[j];
-    let b = state[j + 1];
-    let c = state[j + 2];
-    let d = state[j + 3];
-    state[j] = inv_mix_byte(a, b, c, d);
-    state[j + 1] = inv_mix_byte(b, c, d, a);
-    state[j + 2] = inv_mix_byte(c, d, a, b);
-    state[j + 3] = inv_mix_byte(d, a, b, c);
-}
-
-// InvMixColumns.
-fn inv_mix_columns(state: &mut [u8])
-    requires { ⌜ length (now state) ≡ 16 ⌝ }
-    ensures { λ _. ⌜ now (state .exit) ≡ invMixColumns (now (state .entry)) ⌝ }
-{
-    inv_mix_column(state, 0);
-    inv_mix_column(state, 4);
-    inv_mix_column(state, 8);
-    inv_mix_column(state, 12);
 }
 
 // InvCipher: decrypts a block in place, under the key schedule of `cipher`.
@@ -72,14 +61,9 @@ pub fn inv_cipher(schedule: &[u8], block: &mut [u8])
     requires { ⌜ length (now schedule) ≡ 176 ⌝ ∗ ⌜ length (now block) ≡ 16 ⌝ }
     ensures { λ _. ⌜ now (block .exit) ≡ invCipher (now (schedule .entry)) (now (block .entry)) ⌝ }
 {
-    add_round_key(block, schedule, 10);
+    let mut state = State::load(block).add_round_key(State::round_key(schedule, 10));
     for round in (1..10).rev() {
-        inv_shift_rows(block);
-        inv_sub_bytes(block);
-        add_round_key(block, schedule, round);
-        inv_mix_columns(block);
+        state = inv_cipher_round(state, State::round_key(schedule, round));
     }
-    inv_shift_rows(block);
-    inv_sub_bytes(block);
-    add_round_key(block, schedule, 0);
+    last_inv_round(state, State::round_key(schedule, 0)).store(block);
 }

@@ -1,11 +1,13 @@
 // AES with a key of 128 bits (FIPS 197).
-mod field;
+mod inv_mix_table;
 mod inv_s_box;
 mod inverse;
 mod laws;
+mod mix_table;
 mod rounds;
 mod s_box;
 mod schedule;
+mod state;
 #[cfg(test)]
 mod tests;
 

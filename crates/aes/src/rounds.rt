@@ -1,75 +1,60 @@
-// Cipher (FIPS 197, section 5.1), byte by byte. A state is a slice of sixteen bytes, column by column.
+// Cipher (FIPS 197, section 5.1), a column at a time.
 ghost use mathlib.Core.Path.{_≡_};
-ghost use Prim.Native.Nat.{_+_, _<_};
 ghost use lib.ListN.{length};
-ghost use Rattle.aes.specs.Rounds.{subBytes, shiftRows, mixByte, mixColumns, addRoundKey, roundKey, cipher};
-ghost use Rattle.aes.specs.Steps.{columnFrom};
-use crate::field::times_2;
+ghost use Rattle.aes.specs.Rounds.{addRoundKey, cipher, cipherRound, mixByte, shiftRows, subBytes};
+ghost use Rattle.aes.specs.SBox.{sBox};
+ghost use Rattle.aes.specs.State.{xorBytes};
+ghost use Rattle.aes.specs.Words.{columnOf, diagonal, stateBytes, wordBytes};
+use crate::mix_table::mixed_s_box;
 use crate::s_box::sub_byte;
+use crate::state::State;
+use crate::state::turned_sum;
 
-// SubBytes.
-fn sub_bytes(state: &mut [u8])
-    ensures { λ _. ⌜ now (state .exit) ≡ subBytes (now (state .entry)) ⌝ }
+// A column after a round, from the four columns that ShiftRows takes its bytes from.
+fn round_column(a: u32, b: u32, c: u32, d: u32, key: u32) -> u32
+    ensures { λ r. ⌜ wordBytes r ≡ xorBytes (columnOf mixByte (diagonal sBox a b c d)) (wordBytes key) ⌝ }
 {
-    for b in state.iter_mut() {
-        *b = sub_byte(*b);
+    let p = mixed_s_box(a.to_le_bytes()[0]);
+    let q = mixed_s_box(b.to_le_bytes()[1]);
+    let r = mixed_s_box(c.to_le_bytes()[2]);
+    let s = mixed_s_box(d.to_le_bytes()[3]);
+    turned_sum(p, q, r, s) ^ key
+}
+
+// A column after the last round, from the four columns that ShiftRows takes its bytes from.
+fn last_column(a: u32, b: u32, c: u32, d: u32, key: u32) -> u32
+    ensures { λ r. ⌜ wordBytes r ≡ xorBytes (diagonal sBox a b c d) (wordBytes key) ⌝ }
+{
+    let p = sub_byte(a.to_le_bytes()[0]);
+    let q = sub_byte(b.to_le_bytes()[1]);
+    let r = sub_byte(c.to_le_bytes()[2]);
+    let s = sub_byte(d.to_le_bytes()[3]);
+    u32::from_le_bytes([p, q, r, s]) ^ key
+}
+
+// A round but the last.
+fn cipher_round(state: State, key: State) -> State
+    ensures { λ r. ⌜ stateBytes r ≡ cipherRound (stateBytes key) (stateBytes state) ⌝ }
+{
+    let State { c0, c1, c2, c3 } = state;
+    State {
+        c0: round_column(c0, c1, c2, c3, key.c0),
+        c1: round_column(c1, c2, c3, c0, key.c1),
+        c2: round_column(c2, c3, c0, c1, key.c2),
+        c3: round_column(c3, c0, c1, c2, key.c3),
     }
 }
 
-// ShiftRows.
-fn shift_rows(state: &mut [u8])
-    requires { ⌜ length (now state) ≡ 16 ⌝ }
-    ensures { λ _. ⌜ now (state .exit) ≡ shiftRows (now (state .entry)) ⌝ }
+// The last round.
+fn last_round(state: State, key: State) -> State
+    ensures { λ r. ⌜ stateBytes r ≡ addRoundKey (shiftRows (subBytes (stateBytes state))) (stateBytes key) ⌝ }
 {
-    let mut before = [0; 16];
-    before.copy_from_slice(state);
-    for i in 0..16 {
-        let row = i % 4;
-        let column = i / 4;
-        state[i] = before[4 * ((column + row) % 4) + row];
-    }
-}
-
-// A byte of a column after MixColumns.
-fn mix_byte(a: u8, b: u8, c: u8, d: u8) -> u8
-    ensures { λ r. ⌜ r ≡ mixByte a b c d ⌝ }
-{
-    (times_2(a) ^ (times_2(b) ^ b)) ^ (c ^ d)
-}
-
-// MixColumns at the column from place `j` on.
-fn mix_column(state: &mut [u8], j: usize)
-    requires { ⌜ j + 3 < length (now state) ⌝ }
-    ensures { λ _. ⌜ now (state .exit) ≡ columnFrom mixByte (now (state .entry)) j ⌝ }
-{
-    let a = state[j];
-    let b = state[j + 1];
-    let c = state[j + 2];
-    let d = state[j + 3];
-    state[j] = mix_byte(a, b, c, d);
-    state[j + 1] = mix_byte(b, c, d, a);
-    state[j + 2] = mix_byte(c, d, a, b);
-    state[j + 3] = mix_byte(d, a, b, c);
-}
-
-// MixColumns.
-fn mix_columns(state: &mut [u8])
-    requires { ⌜ length (now state) ≡ 16 ⌝ }
-    ensures { λ _. ⌜ now (state .exit) ≡ mixColumns (now (state .entry)) ⌝ }
-{
-    mix_column(state, 0);
-    mix_column(state, 4);
-    mix_column(state, 8);
-    mix_column(state, 12);
-}
-
-// AddRoundKey, with the round key of `round`.
-pub fn add_round_key(state: &mut [u8], schedule: &[u8], round: usize)
-    requires { ⌜ length (now state) ≡ 16 ⌝ ∗ ⌜ length (now schedule) ≡ 176 ⌝ ∗ ⌜ round < 11 ⌝ }
-    ensures { λ _. ⌜ now (state .exit) ≡ addRoundKey (now (state .entry)) (roundKey (now (schedule .entry)) round) ⌝ }
-{
-    for i in 0..16 {
-        state[i] ^= schedule[16 * round + i];
+    let State { c0, c1, c2, c3 } = state;
+    State {
+        c0: last_column(c0, c1, c2, c3, key.c0),
+        c1: last_column(c1, c2, c3, c0, key.c1),
+        c2: last_column(c2, c3, c0, c1, key.c2),
+        c3: last_column(c3, c0, c1, c2, key.c3),
     }
 }
 
@@ -78,14 +63,9 @@ pub fn cipher(schedule: &[u8], block: &mut [u8])
     requires { ⌜ length (now schedule) ≡ 176 ⌝ ∗ ⌜ length (now block) ≡ 16 ⌝ }
     ensures { λ _. ⌜ now (block .exit) ≡ cipher (now (schedule .entry)) (now (block .entry)) ⌝ }
 {
-    add_round_key(block, schedule, 0);
+    let mut state = State::load(block).add_round_key(State::round_key(schedule, 0));
     for round in 1..10 {
-        sub_bytes(block);
-        shift_rows(block);
-        mix_columns(block);
-        add_round_key(block, schedule, round);
+        state = cipher_round(state, State::round_key(schedule, round));
     }
-    sub_bytes(block);
-    shift_rows(block);
-    add_round_key(block, schedule, 10);
+    last_round(state, State::round_key(schedule, 10)).store(block);
 }
