@@ -1,0 +1,6 @@
+pub mod Examined
+pub mod Meaning
+pub mod Paces
+pub mod Refusals
+pub mod Rows
+pub mod Shelves
