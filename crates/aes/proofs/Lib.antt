@@ -1,0 +1,9 @@
+pub mod ByteLaws
+pub mod Columns
+pub mod FieldLaws
+pub mod InPlace
+pub mod KeyWords
+pub mod Rows
+pub mod Tables
+pub mod Undone
+pub mod Vectors

@@ -1,0 +1,7 @@
+use mathlib.Core.Path.{_≡_}
+use Rattle.aes.specs.Rounds.{subBytes}
+use Rattle.aes.proofs.InPlace.{over}
+use Rattle.aes.proofs.rounds.sub_bytes.Given as given
+
+abbrev pub Inv-loop-b : given.InvT-loop-b
+Inv-loop-b l = l .state ≡ over (subBytes (l .entry .state)) (l .entry .state) (l .b-index)

@@ -1,0 +1,9 @@
+pub mod Examples
+pub mod Field
+pub mod Inverse
+pub mod KeyExpansion
+pub mod Laws
+pub mod Rounds
+pub mod SBox
+pub mod State
+pub mod Steps
