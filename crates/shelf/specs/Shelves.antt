@@ -3,9 +3,11 @@ use mathlib.Core.List.{List}
 use Prim.Native.Nat.{ℕ, max}
 use lib.Dec.{lit≤}
 use lib.ListN.{getD}
+use Rattle.word.specs.Identifiers.{unwrapped}
 use Rattle.shelf.specs.declared.pacing.Pacing.{Pacing}
 use Rattle.shelf.specs.declared.pacing.Pace.{Pace}
 use Rattle.shelf.specs.declared.shelf.Shelf.{Ghosts}
+use Rattle.shelf.specs.declared.unwrapping.Unwrapping.{Unwrapping}
 use Rattle.shelf.specs.Meaning.{ShelfMeaning, meaning}
 use Rattle.shelf.specs.Paces.{PaceRow}
 
@@ -31,4 +33,12 @@ pacingMeaning m s = record {
   reads = m .reads (s .below);
   held = m .held (s .below);
   next = λ k. max (paceAt s k .next) (m .next (s .below) k);
+}
+
+-- an unwrapping shelf reads an entry as the shelf below reads what the entry unwraps to, and holds and takes next what that does
+abbrev pub unwrappingMeaning : {S : Type 0} → Ghosts S → Unwrapping S → ShelfMeaning
+unwrappingMeaning m s = record {
+  reads = λ entry. m .reads (s .below) (unwrapped (s .identifier) entry);
+  held = m .held (s .below);
+  next = m .next (s .below);
 }

@@ -22,8 +22,7 @@ fn service_of(number: u8) -> Service
 fn holds_at<S: Shelf>(shelf: &S, service: Service) -> bool
     ensures { λ r. ⌜ r ≡ holdsAt (meaningOf S·Shelf (now (shelf .entry))) (service .number) ⌝ }
 {
-    shelf.word(service, Parity::Even).is_some()
-        || shelf.word(service, Parity::Odd).is_some()
+    shelf.word(service, Parity::Even).is_some() || shelf.word(service, Parity::Odd).is_some()
 }
 
 /// Whether the service has a next other than 0.

@@ -4,6 +4,7 @@ mod faults;
 mod pacing;
 mod plain;
 mod shelf;
+mod unwrapping;
 
 pub use examination::examine;
 pub use faults::ShelfFault;
@@ -14,3 +15,5 @@ pub use pacing::PacingShelf;
 pub use plain::PlainShelf;
 pub use plain::PlainShelfShelf;
 pub use shelf::Shelf;
+pub use unwrapping::Unwrapping;
+pub use unwrapping::UnwrappingShelf;

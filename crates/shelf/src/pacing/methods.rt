@@ -25,7 +25,11 @@ impl Pace {
         let seconds = moment.seconds();
         let span = seconds / 300;
         let taken = if span == self.span { self.taken + 1 } else { 1 };
-        let full_until = if taken == 10 { (u64::from(span) + 1) * 300 } else { 0 };
+        let full_until = if taken == 10 {
+            (u64::from(span) + 1) * 300
+        } else {
+            0
+        };
         let next = (u64::from(seconds) + 10).max(full_until);
         Pace { next, span, taken }
     }
