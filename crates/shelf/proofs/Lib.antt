@@ -1,3 +1,4 @@
 pub mod Fresh
+pub mod Rule
 pub mod Services
 pub mod Tables

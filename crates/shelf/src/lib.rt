@@ -12,6 +12,7 @@ pub use faults::ShelfFaultDebug;
 pub use faults::ShelfFaultPartialEq;
 pub use pacing::Pacing;
 pub use pacing::PacingShelf;
+pub use pacing::pacing_follows_its_rule;
 pub use plain::PlainShelf;
 pub use plain::PlainShelfShelf;
 pub use shelf::Shelf;

@@ -7,6 +7,7 @@ ghost use Rattle.shelf.specs.Paces.{fullUntil};
 mod methods;
 
 pub use methods::PacingShelf;
+pub use methods::pacing_follows_its_rule;
 
 /// When a service takes a word next, and how many it took in the span of its latest word.
 /// A span is 300 seconds, numbered by its moments divided by 300.
