@@ -36,3 +36,9 @@ pub record FollowsRule (moments : List ℕ) : Type 0 where
 -- whatever words a service took, none too soon
 abbrev pub PacingRule : Type 0
 PacingRule = (moments : List ℕ) → Due moments → FollowsRule moments
+
+-- a word at 1000 moves the next to 1010; ten words from 1200 to 1290 move it to the end of their span
+abbrev pub PacingExamples : Type 0
+PacingExamples =
+    (paceBy (1000 ∷ []) .next ≡ 1010)
+    × (paceBy (1290 ∷ 1280 ∷ 1270 ∷ 1260 ∷ 1250 ∷ 1240 ∷ 1230 ∷ 1220 ∷ 1210 ∷ 1200 ∷ []) .next ≡ 1500)

@@ -4,6 +4,8 @@ mod faults;
 mod pacing;
 mod plain;
 mod shelf;
+#[cfg(test)]
+mod tests;
 mod unwrapping;
 
 pub use examination::examine;

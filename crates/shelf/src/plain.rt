@@ -18,6 +18,11 @@ struct Row {
     odd: Option<Word>,
 }
 
+const EMPTY: Row = Row {
+    even: None,
+    odd: None,
+};
+
 /// One row for each of the 32 services.
 #[derive(Drop)]
 pub struct PlainShelf {
@@ -29,11 +34,7 @@ impl PlainShelf {
     pub fn new() -> PlainShelf
         ensures { λ r. ⌜ ((k : ℕ) (q : Parity) → plainMeaning r .held k q ≡ None) ⌝ }
     {
-        let empty = Row {
-            even: None,
-            odd: None,
-        };
-        PlainShelf { rows: [empty; 32] }
+        PlainShelf { rows: [EMPTY; 32] }
     }
 }
 
@@ -73,9 +74,6 @@ pub impl Shelf for PlainShelf as PlainShelfShelf {
     }
 
     fn wipe(&mut self, service: Service) {
-        self.rows[usize::from(service.number())] = Row {
-            even: None,
-            odd: None,
-        };
+        self.rows[usize::from(service.number())] = EMPTY;
     }
 }

@@ -6,7 +6,7 @@ ghost use lib.Dec.{eqb};
 ghost use Rattle.std.specs.Results.{isOk};
 ghost use Rattle.shelf.specs.Meaning.{Puts, Wipes};
 ghost use Rattle.shelf.specs.Paces.{paced, rested};
-ghost use Rattle.shelf.specs.PacingRule.{PacingRule};
+ghost use Rattle.shelf.specs.PacingRule.{PacingRule, PacingExamples};
 ghost use Rattle.shelf.specs.Shelves.{rowOf, paceAt, pacingMeaning};
 use crate::faults::ShelfFault;
 use crate::pacing::Pace;
@@ -104,6 +104,6 @@ pub impl<S: Shelf> Shelf for Pacing<S> as PacingShelf {
 
 /// The pace that is kept is the rule's, and no span of 300 seconds has more than ten words.
 pub fn pacing_follows_its_rule()
-    ensures { λ _. ⌜ PacingRule ⌝ }
-{
-}
+    ensures rule { λ _. ⌜ PacingRule ⌝ }
+    ensures examples { λ _. ⌜ PacingExamples ⌝ }
+{}
