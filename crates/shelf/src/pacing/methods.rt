@@ -3,11 +3,12 @@ ghost use mathlib.Core.Bool.{cond, _&&_};
 ghost use mathlib.Core.Path.{_≡_};
 ghost use Prim.Native.Nat.{ℕ, _≤_};
 ghost use lib.Dec.{eqb};
-ghost use Rattle.std.specs.Results.{isOk};
+ghost use Rattle.std.specs.declared.result.Result.the-variants.{Ok};
+ghost use Rattle.std.specs.Results.{Cases, isOk};
 ghost use Rattle.shelf.specs.Meaning.{Puts, Wipes};
 ghost use Rattle.shelf.specs.Paces.{paced, rested};
 ghost use Rattle.shelf.specs.PacingRule.{PacingRule, PacingExamples};
-ghost use Rattle.shelf.specs.Shelves.{rowOf, paceAt, pacingMeaning};
+ghost use Rattle.shelf.specs.Shelves.{meaningOf, rowOf, paceAt, pacingMeaning};
 use crate::faults::ShelfFault;
 use crate::pacing::Pace;
 use crate::pacing::Pacing;
@@ -71,6 +72,7 @@ pub impl<S: Shelf> Shelf for Pacing<S> as PacingShelf {
     ) -> Result<(), ShelfFault>
         ensures puts { λ r. ⌜ Puts (pacingMeaning S·Shelf (now (self .entry))) (service .number) parity (now (entry .entry)) (moment .seconds) r (pacingMeaning S·Shelf (now (self .exit))) ⌝ }
         ensures paces { λ r. ⌜ ((k : ℕ) → paceAt (now (self .exit)) k ≡ cond (isOk r && eqb k (service .number)) (paced (paceAt (now (self .entry)) k) (moment .seconds)) (paceAt (now (self .entry)) k)) ⌝ }
+        ensures below { λ r. ⌜ Cases r (λ _. Puts (meaningOf S·Shelf (now (self .entry) .below)) (service .number) parity (now (entry .entry)) (moment .seconds) (Ok tt) (meaningOf S·Shelf (now (self .exit) .below))) (λ _. now (self .exit) .below ≡ now (self .entry) .below) ⌝ }
     {
         let next = self.next_load(service);
         if u64::from(moment.seconds()) < next {
@@ -97,6 +99,7 @@ pub impl<S: Shelf> Shelf for Pacing<S> as PacingShelf {
     fn wipe(&mut self, service: Service)
         ensures wipes { λ _. ⌜ Wipes (pacingMeaning S·Shelf (now (self .entry))) (service .number) (pacingMeaning S·Shelf (now (self .exit))) ⌝ }
         ensures paces { λ _. ⌜ now (self .exit) .paces ≡ now (self .entry) .paces ⌝ }
+        ensures below { λ _. ⌜ Wipes (meaningOf S·Shelf (now (self .entry) .below)) (service .number) (meaningOf S·Shelf (now (self .exit) .below)) ⌝ }
     {
         self.below.wipe(service);
     }
