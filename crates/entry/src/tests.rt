@@ -9,6 +9,7 @@ use fault::Refusal;
 use fault::RefusalDebug;
 use fault::RefusalPartialEq;
 use std::test::*;
+use word::Word;
 
 /// Why a second group is refused, after a first that is right.
 fn second_fault(text: &str) -> Option<EntryFault> {
@@ -23,24 +24,7 @@ fn groups_make_a_word() -> Result<(), Fail> {
     let word = enter_word("00112233", "44556677", "8899aabb", "ccddeeff")?;
     check_eq(
         word.to_bytes(),
-        [
-            0x00,
-            0x11,
-            0x22,
-            0x33,
-            0x44,
-            0x55,
-            0x66,
-            0x77,
-            0x88,
-            0x99,
-            0xaa,
-            0xbb,
-            0xcc,
-            0xdd,
-            0xee,
-            0xff,
-        ],
+        Word::new(0x0011_2233_4455_6677, 0x8899_aabb_ccdd_eeff).to_bytes(),
     )
 }
 
@@ -49,24 +33,7 @@ fn digits_of_both_cases() -> Result<(), Fail> {
     let word = enter_word("01234567", "89abcdef", "89ABCDEF", "fFaA09Bc")?;
     check_eq(
         word.to_bytes(),
-        [
-            0x01,
-            0x23,
-            0x45,
-            0x67,
-            0x89,
-            0xab,
-            0xcd,
-            0xef,
-            0x89,
-            0xab,
-            0xcd,
-            0xef,
-            0xff,
-            0xaa,
-            0x09,
-            0xbc,
-        ],
+        Word::new(0x0123_4567_89ab_cdef, 0x89ab_cdef_ffaa_09bc).to_bytes(),
     )
 }
 

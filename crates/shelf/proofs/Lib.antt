@@ -1,0 +1,4 @@
+pub mod Fresh
+pub mod Rule
+pub mod Services
+pub mod Tables

@@ -1,0 +1,4 @@
+use Rattle.word.proofs.identifier.Identifier.unwrap.Needs as need
+
+pub returns : need.returns
+returns c = cc
