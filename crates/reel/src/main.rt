@@ -5,18 +5,18 @@ mod report;
 mod stream;
 mod tally;
 
+use cipher::ClearTailRule;
+use cipher::MaskedTailRule;
 use command::BadCommand;
 use command::Command;
 use command::ProfileName;
+use profile::Aes128Cipher;
+use profile::DesCipher;
 use profile::cissa_profile;
 use profile::des_profile;
 use profile::idsa_profile;
 use std::env;
 use std::error::AnyError;
-use cipher::ClearTailRule;
-use cipher::MaskedTailRule;
-use profile::Aes128Cipher;
-use profile::DesCipher;
 
 fn main(rt: LibcRuntime) -> Result<(), AnyError> {
     rt.report(run(&rt))

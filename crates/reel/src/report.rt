@@ -3,6 +3,7 @@ use crate::command::Command;
 use crate::command::ProfileName;
 use crate::command::Task;
 use crate::tally::Tally;
+use batch::BatchFault;
 use fault::Layer;
 use fault::Refusal;
 use std::io;
@@ -12,12 +13,24 @@ use word::Parity;
 pub fn print_usage(rt: &LibcRuntime) -> io::Result<()> {
     eprintln!(rt, "reel scramble   PROFILE PARITY WORD PIDS IN OUT")?;
     eprintln!(rt, "reel descramble PROFILE PARITY WORD PIDS IN OUT")?;
-    eprintln!(rt, "reel rehearse   PROFILE PARITY WORD PIDS IN [--packets]")?;
+    eprintln!(
+        rt,
+        "reel rehearse   PROFILE PARITY WORD PIDS IN [--packets]"
+    )?;
     eprintln!(rt, "  PROFILE  cissa, idsa or des")?;
     eprintln!(rt, "  PARITY   even or odd")?;
-    eprintln!(rt, "  WORD     four groups of eight hexadecimal digits, leftmost first")?;
-    eprintln!(rt, "  PIDS     32 to 8190, with commas, decimal or after 0x")?;
-    eprintln!(rt, "  IN, OUT  transport stream files; a rehearsal writes none, and shows")?;
+    eprintln!(
+        rt,
+        "  WORD     four groups of eight hexadecimal digits, leftmost first"
+    )?;
+    eprintln!(
+        rt,
+        "  PIDS     32 to 8190, with commas, decimal or after 0x"
+    )?;
+    eprintln!(
+        rt,
+        "  IN, OUT  transport stream files; a rehearsal writes none, and shows"
+    )?;
     eprintln!(rt, "           the scrambled packets after --packets")
 }
 
@@ -43,18 +56,25 @@ pub fn print_entry_refusal(rt: &LibcRuntime, refusal: &Refusal) -> io::Result<()
 }
 
 /// A refused batch; `done` is how many packets came before it.
-pub fn print_refusal(rt: &LibcRuntime, refusal: &Refusal, done: u64) -> io::Result<()> {
+pub fn print_refusal(rt: &LibcRuntime, fault: &BatchFault, done: u64) -> io::Result<()> {
+    let refusal = fault.refusal();
     let number = refusal.number;
     let layer = layer_name(refusal.layer);
     let meaning = refusal.meaning();
     eprintln!(rt, "refused: {number} ({meaning})")?;
     eprintln!(rt, "layer: {layer}")?;
-    if number == 13 {
-        return eprintln!(rt, "at: the batch after packet {done}, the last of the stream");
+    if let BatchFault::BatchLength { length } = fault {
+        let packet = done.saturating_add((*length / 188) as u64);
+        return eprintln!(rt, "at: packet {packet}, in which the stream ends");
     }
     let packet = done.saturating_add(refusal.first);
     let byte = refusal.second;
     eprintln!(rt, "at: packet {packet}, byte {byte}")
+}
+
+/// A stream that cannot be read, and why.
+pub fn print_unreadable(rt: &LibcRuntime, path: &str, error: &io::Error) -> io::Result<()> {
+    eprintln!(rt, "{path}: {error}")
 }
 
 fn profile_name(profile: ProfileName) -> &'static str {
@@ -89,12 +109,18 @@ pub fn print_tally(rt: &LibcRuntime, command: &Command, tally: &Tally) -> io::Re
     let read = tally.all.read;
     let changed = tally.all.changed;
     let passed = tally.all.passed();
-    println!(rt, "packets: {read} read, {changed} changed, {passed} passed")?;
+    println!(
+        rt,
+        "packets: {read} read, {changed} changed, {passed} passed"
+    )?;
     for (pid, count) in &tally.pids {
         let read = count.read;
         let changed = count.changed;
         let passed = count.passed();
-        println!(rt, "PID {pid}: {read} read, {changed} changed, {passed} passed")?;
+        println!(
+            rt,
+            "PID {pid}: {read} read, {changed} changed, {passed} passed"
+        )?;
     }
     Ok(())
 }

@@ -2,18 +2,18 @@
 ghost use Prim.Native.Nat.{_≤_};
 ghost use lib.ListN.{length};
 ghost use Rattle.std.specs.Vec.{made};
-use batch::BatchFault;
-use batch::descramble;
-use batch::scramble;
-use cipher::Cipher;
-use cipher::Profile;
-use cipher::TailRule;
 use crate::command::Command;
 use crate::command::Task;
 use crate::keys::OneWord;
 use crate::keys::OneWordKeyring;
 use crate::report;
 use crate::tally::Tally;
+use batch::BatchFault;
+use batch::descramble;
+use batch::scramble;
+use cipher::Cipher;
+use cipher::Profile;
+use cipher::TailRule;
 use std::error::AnyError;
 use std::fs::File;
 use std::io;
@@ -73,7 +73,12 @@ fn fill(input: &mut File, buffer: &mut [u8]) -> io::Result<usize>
 }
 
 // Scrambles or descrambles a batch in place.
-fn change_batch<C: Cipher, T: TailRule>(task: Task, profile: &Profile<C, T>, keys: &OneWord, batch: &mut [u8]) -> Result<(usize, usize), BatchFault> {
+fn change_batch<C: Cipher, T: TailRule>(
+    task: Task,
+    profile: &Profile<C, T>,
+    keys: &OneWord,
+    batch: &mut [u8],
+) -> Result<(usize, usize), BatchFault> {
     let mut memory = [0; LONGEST_SCHEDULE];
     let n = profile.cipher.schedule_len();
     let area = &mut memory[0..n];
@@ -85,10 +90,20 @@ fn change_batch<C: Cipher, T: TailRule>(task: Task, profile: &Profile<C, T>, key
 
 // A refusal is printed whole; what is left to say is short.
 fn refused(rt: &LibcRuntime, fault: &BatchFault, done: u64) -> AnyError {
-    let refusal = fault.refusal();
-    match report::print_refusal(rt, &refusal, done) {
+    match report::print_refusal(rt, fault, done) {
         Ok(()) => "the stream was refused, and nothing was written".into(),
         Err(error) => error.into(),
+    }
+}
+
+// Opens the stream, or says why that cannot be.
+fn open_input(rt: &LibcRuntime, path: &str) -> Result<File, AnyError> {
+    match File::open(rt, path) {
+        Ok(file) => Ok(file),
+        Err(error) => {
+            report::print_unreadable(rt, path, &error)?;
+            Err("the stream cannot be opened".into())
+        }
     }
 }
 
@@ -141,10 +156,18 @@ fn work_through<C: Cipher, T: TailRule>(
     command: &Command,
     destination: &mut Destination,
 ) -> Result<Tally, AnyError> {
-    let mut input = File::open(rt, command.input.as_str())?;
+    let mut input = open_input(rt, command.input.as_str())?;
     let mut tally = Tally::new(rt.alloc());
     let mut buffer = [0; BATCH];
-    each_batch(rt, profile, command, &mut input, destination, &mut buffer, &mut tally)?;
+    each_batch(
+        rt,
+        profile,
+        command,
+        &mut input,
+        destination,
+        &mut buffer,
+        &mut tally,
+    )?;
     if tally.all.read == 0 {
         return Err("the stream is empty".into());
     }
@@ -168,7 +191,14 @@ fn each_batch<C: Cipher, T: TailRule>(
         let done = tally.all.read;
         match destination {
             Destination::Nowhere => rehearse_batch(rt, profile, command, &mut buffer[0..n], tally)?,
-            Destination::Into(file) => convert_batch(rt, profile, command, &mut buffer[0..n], file, tally)?,
+            Destination::Into(file) => convert_batch(
+                rt,
+                profile,
+                command,
+                &mut buffer[0..n],
+                file,
+                tally,
+            )?,
         }
         progress(rt, done, tally.all.read)?;
     }
