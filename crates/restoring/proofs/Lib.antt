@@ -1,0 +1,4 @@
+pub mod Plans
+pub mod Packets
+pub mod Calls
+pub mod Rehearsed
