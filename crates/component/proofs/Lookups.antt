@@ -2,18 +2,21 @@
 use mathlib.Core.Path.{_≡_, refl, sym, ap, _∙_}
 use mathlib.Core.Bool.{Bool, true, false, cond, not}
 use mathlib.Core.List.{List, [], _∷_, _++_}
-use Prim.Native.Nat.{ℕ, _+_, _-_, _<_, _≤_}
+use Prim.Native.Nat.{ℕ, _+_, _<_, _≤_}
 use native.Mathlib.Omega.{arith}
-use lib.Dec.{eqb, ltb}
+use lib.Dec.{eqb}
 use lib.ListN.{length, getD, take, drop}
 use borrow.Author.Tests.{eqb-true, eqb-false, eq-eqb, clash}
 use Rattle.std.proofs.shelf.Lists.{at-drop-more, at-drop-all, length-take-le, getD-take}
-use Rattle.std.proofs.shelf.Tests.{lt-ltb, le-ltb, ne-eqb}
+use Rattle.std.proofs.shelf.Tests.{ne-eqb}
 use Rattle.std.specs.Options.{isSome}
 use Rattle.std.specs.shelf.Lists.{kept-by}
 use Rattle.std.specs.declared.option.Option.{Option}
 use Rattle.std.specs.declared.option.Option.the-variants.{None, Some}
 use Rattle.component.specs.declared.component.Component.{Component}
+use Rattle.component.specs.declared.leaving.Leaving.{Leaving}
+use Rattle.component.specs.declared.leaving.Leaving.the-variants.{OfPid, OfService}
+use Rattle.component.specs.Leavings.{staying, joinedAfter}
 use Rattle.component.specs.Rows.{joinedIn, apart}
 use Rattle.component.specs.Table.{otherPids, otherServices, withoutService}
 
@@ -108,7 +111,7 @@ joined-kept q k (c ∷ cs) e =
     go ih none false p false f = ih
 
 -- ---- without a PID
-pub joined-without-pid : (pid k : ℕ) (cs : List Component) → apart cs ≡ true → joinedIn (otherPids pid cs) k ≡ cond (eqb k pid) None (joinedIn cs k)
+joined-without-pid : (pid k : ℕ) (cs : List Component) → apart cs ≡ true → joinedIn (otherPids pid cs) k ≡ cond (eqb k pid) None (joinedIn cs k)
 joined-without-pid pid k cs e = joined-kept (λ x n. not (eqb x pid)) k cs e ∙ go (eqb k pid) (joinedIn cs k) refl
   where
     go : (v : Bool) (o : Option ℕ) → eqb k pid ≡ v → passing (λ x n. not (eqb x pid)) k o ≡ cond v None o
@@ -130,22 +133,8 @@ length-without-pid pid (c ∷ cs) e =
         omega arith
     go ih none false f = omega arith
 
--- of m components one went or none: whether fewer are left, and how many
-pub fewer : (s : Bool) (n m : ℕ) → n + cond s 1 0 ≡ m → (ltb n m ≡ s) × (n ≡ m - cond (ltb n m) 1 0)
-fewer s n m e = (is s e, go (ltb n m) s (is s e) e)
-  where
-    is : (s : Bool) → n + cond s 1 0 ≡ m → ltb n m ≡ s
-    is true e = lt-ltb n m (omega arith)
-    is false e = le-ltb n m (omega arith)
-
-    go : (v s : Bool) → v ≡ s → n + cond s 1 0 ≡ m → n ≡ m - cond v 1 0
-    go true true f e = omega arith
-    go false false f e = omega arith
-    go true false f e = absurd (clash (sym f))
-    go false true f e = absurd (clash f)
-
 -- ---- without a service
-pub joined-without-service : (n k : ℕ) (cs : List Component) → apart cs ≡ true → joinedIn (otherServices n cs) k ≡ withoutService n (joinedIn cs k)
+joined-without-service : (n k : ℕ) (cs : List Component) → apart cs ≡ true → joinedIn (otherServices n cs) k ≡ withoutService n (joinedIn cs k)
 joined-without-service n k cs e = joined-kept (λ x m. not (eqb m n)) k cs e ∙ go (joinedIn cs k)
   where
     go : (o : Option ℕ) → passing (λ x m. not (eqb m n)) k o ≡ withoutService n o
@@ -155,6 +144,11 @@ joined-without-service n k cs e = joined-kept (λ x m. not (eqb m n)) k cs e ∙
         turn : (v : Bool) → cond (not v) (Some m) None ≡ cond v None (Some m)
         turn true = refl
         turn false = refl
+
+-- ---- without those that leave
+pub joined-staying : (l : Leaving) (k : ℕ) (cs : List Component) → apart cs ≡ true → joinedIn (staying l cs) k ≡ joinedAfter l k (joinedIn cs k)
+joined-staying (OfPid pid) k cs e = joined-without-pid pid k cs e
+joined-staying (OfService service) k cs e = joined-without-service (service .number) k cs e
 
 -- ---- one row of a search among the first n
 joined-at : (k : ℕ) (rows : List Component) (n i : ℕ) (d : Component) → i < n → n ≤ length rows

@@ -22,45 +22,37 @@ fn number_of(table: &Components, pid: u16) -> Option<u8> {
 
 #[test]
 fn refuses_the_65th() -> Result<(), Fail> {
+    let third = service(3)?;
     let mut table = Components::new();
-    for pid in 100..164 {
-        check_eq(table.add(pid, service(3)?), Ok(()))?;
+    for pid in 8127..8191 {
+        check_eq(table.add(pid, third), Ok(()))?;
     }
-    check_eq(table.add(164, service(3)?), Err(ComponentFault::Full))?;
-    check_eq(table.add(163, service(4)?), Err(ComponentFault::Joined))?;
-    check_eq(table.add(31, service(4)?), Err(ComponentFault::OutOfRange))?;
-    check_eq(table.len(), 64)?;
-    check_eq(number_of(&table, 163), Some(3))?;
-    check_eq(number_of(&table, 164), None)
-}
-
-#[test]
-fn takes_the_first_and_last_pid() -> Result<(), Fail> {
-    let mut table = Components::new();
-    check_eq(table.add(31, service(0)?), Err(ComponentFault::OutOfRange))?;
-    check_eq(table.add(32, service(0)?), Ok(()))?;
-    check_eq(table.add(8190, service(31)?), Ok(()))?;
-    check_eq(
-        table.add(8191, service(31)?),
-        Err(ComponentFault::OutOfRange),
-    )?;
-    check_eq(table.len(), 2)
+    check_eq(table.add(8126, third), Err(ComponentFault::Full))?;
+    check_eq(table.add(8190, third), Err(ComponentFault::Joined))?;
+    check_eq(table.add(8191, third), Err(ComponentFault::OutOfRange))?;
+    check_eq(table.len(), 64)
 }
 
 #[test]
 fn removes() -> Result<(), Fail> {
+    let fifth = service(5)?;
     let mut table = Components::new();
-    check_eq(table.add(100, service(1)?), Ok(()))?;
-    check_eq(table.add(101, service(2)?), Ok(()))?;
-    check_eq(table.add(102, service(1)?), Ok(()))?;
-    check_eq(table.add(103, service(5)?), Ok(()))?;
-    check(table.remove(103))?;
-    check(!table.remove(103))?;
-    check_eq(number_of(&table, 103), None)?;
-    check_eq(table.len(), 3)?;
-    table.remove_service(service(1)?);
-    check_eq(number_of(&table, 100), None)?;
+    check_eq(table.add(32, fifth), Ok(()))?;
+    check_eq(number_of(&table, 32), Some(5))?;
+    check(table.remove(32))?;
+    check(!table.remove(32))?;
+    check_eq(number_of(&table, 32), None)
+}
+
+#[test]
+fn removes_service() -> Result<(), Fail> {
+    let first = service(1)?;
+    let second = service(2)?;
+    let mut table = Components::new();
+    check_eq(table.add(100, first), Ok(()))?;
+    check_eq(table.add(101, second), Ok(()))?;
+    check_eq(table.add(102, first), Ok(()))?;
+    table.remove_service(first);
     check_eq(number_of(&table, 101), Some(2))?;
-    check_eq(number_of(&table, 102), None)?;
     check_eq(table.len(), 1)
 }

@@ -1,14 +1,13 @@
 ghost use mathlib.Core.Path.{_≡_};
-ghost use mathlib.Core.Bool.{Bool, cond, not, _&&_};
-ghost use mathlib.Core.List.{List, [], _∷_, _++_};
-ghost use Prim.Native.Nat.{ℕ, _+_, _-_, _≤_};
+ghost use mathlib.Core.Bool.{cond, _&&_};
+ghost use mathlib.Core.List.{[], _∷_, _++_};
+ghost use Prim.Native.Nat.{ℕ, _+_, _-_, _<_, _≤_};
 ghost use lib.Dec.{eqb};
 ghost use lib.ListN.{length, take};
 ghost use Rattle.std.specs.Options.{isSome, mapped};
 ghost use Rattle.std.specs.Results.{isOk};
 ghost use Rattle.std.specs.declared.option.Option.the-variants.{None, Some};
-ghost use Rattle.std.specs.shelf.Lists.{kept-by};
-ghost use Rattle.component.specs.Leavings.{leaves};
+ghost use Rattle.component.specs.Leavings.{staying, joinedAfter, countAfter};
 ghost use Rattle.component.specs.Table.{componentsOf, joined, count, addAnswer, withoutService, otherPids, otherServices};
 use crate::component::Component;
 use crate::components::Components;
@@ -88,9 +87,20 @@ impl Components {
         ensures count { λ r. ⌜ count (now (self .exit)) ≡ count (now (self .entry)) + cond (isOk r) 1 0 ⌝ }
     {
         self.admits(pid)?;
-        self.rows[self.len] = Component { pid, service };
-        self.len += 1;
+        self.push(Component { pid, service });
         Ok(())
+    }
+
+    /// Adds a component at the end.
+    fn push(&mut self, component: Component)
+        requires fresh { ⌜ joined (now self) (component .pid) ≡ None ⌝ }
+        requires room { ⌜ count (now self) < 64 ⌝ }
+        ensures rows { λ _. ⌜ componentsOf (now (self .exit)) ≡ componentsOf (now (self .entry)) ++ component ∷ [] ⌝ }
+        ensures joined { λ _. ⌜ ((k : ℕ) → joined (now (self .exit)) k ≡ cond (eqb k (component .pid)) (Some (component .service .number)) (joined (now (self .entry)) k)) ⌝ }
+        ensures count { λ _. ⌜ count (now (self .exit)) ≡ count (now (self .entry)) + 1 ⌝ }
+    {
+        self.rows[self.len] = component;
+        self.len += 1;
     }
 
     /// Takes the component of a PID out, and says whether there was one. The others keep their order.
@@ -100,9 +110,9 @@ impl Components {
         ensures joined { λ _. ⌜ ((k : ℕ) → joined (now (self .exit)) k ≡ cond (eqb k pid) None (joined (now (self .entry)) k)) ⌝ }
         ensures count { λ r. ⌜ count (now (self .exit)) ≡ count (now (self .entry)) - cond r 1 0 ⌝ }
     {
-        let before = self.len;
-        self.len = squeeze(&mut self.rows, before, Leaving::OfPid(pid));
-        self.len < before
+        let there = self.service_of(pid).is_some();
+        self.take_out(Leaving::OfPid(pid));
+        there
     }
 
     /// Takes all components of a service out. The others keep their order.
@@ -111,14 +121,23 @@ impl Components {
         ensures joined { λ _. ⌜ ((k : ℕ) → joined (now (self .exit)) k ≡ withoutService (service .number) (joined (now (self .entry)) k)) ⌝ }
         ensures count { λ _. ⌜ count (now (self .exit)) ≡ length (otherServices (service .number) (componentsOf (now (self .entry)))) ⌝ }
     {
-        self.len = squeeze(&mut self.rows, self.len, Leaving::OfService(service));
+        self.take_out(Leaving::OfService(service));
+    }
+
+    /// Takes the components that leave out. The others keep their order.
+    fn take_out(&mut self, leaving: Leaving)
+        ensures rows { λ _. ⌜ componentsOf (now (self .exit)) ≡ staying leaving (componentsOf (now (self .entry))) ⌝ }
+        ensures joined { λ _. ⌜ ((k : ℕ) → joined (now (self .exit)) k ≡ joinedAfter leaving k (joined (now (self .entry)) k)) ⌝ }
+        ensures count { λ _. ⌜ count (now (self .exit)) ≡ countAfter leaving (now (self .entry)) ⌝ }
+    {
+        self.len = squeeze(&mut self.rows, self.len, leaving);
     }
 }
 
 /// Moves the components that stay to the front, in their order, and says how many they are.
 fn squeeze(rows: &mut [Component], len: usize, leaving: Leaving) -> usize
     requires { ⌜ len ≤ length (now rows) ⌝ }
-    ensures front { λ r. ⌜ take r (now (rows .exit)) ≡ kept-by (λ c. not (leaves leaving c)) (take len (now (rows .entry))) ⌝ }
+    ensures front { λ r. ⌜ take r (now (rows .exit)) ≡ staying leaving (take len (now (rows .entry))) ⌝ }
     ensures few { λ r. ⌜ r ≤ len ⌝ }
 {
     let mut front = 0;

@@ -14,16 +14,16 @@ returns-then-self-eq0 c =
 pub loop-i-again : need.loop-i-again
 loop-i-again c =
     let t = c .args .self .now in
-    sym (joined-miss (c .args .pid) (t .rows) (t .len) (c .loop-i .i) (c .index-self-i .result) (c .loop-i-test .taken) (len-fits t) (c .if-component-pid .left)) ∙ c .loop-i .inv
+    sym (joined-miss (c .args .pid) (t .rows) (t .len) (c .loop-i .i) (c .index-self-i .result) (omega arith) (len-fits t) (c .if-component-pid .left)) ∙ c .loop-i .inv
 
 pub returns-then-component-pid : need.returns-then-component-pid
 unfolding componentsOf joined
 returns-then-component-pid c =
     let t = c .args .self .now in
-    sym (joined-hit (c .args .pid) (t .rows) (t .len) (c .loop-i .i) (c .index-self-i .result) (c .loop-i-test .taken) (len-fits t) (c .if-component-pid .taken)) ∙ c .loop-i .inv
+    sym (joined-hit (c .args .pid) (t .rows) (t .len) (c .loop-i .i) (c .index-self-i .result) (omega arith) (len-fits t) (c .if-component-pid .taken)) ∙ c .loop-i .inv
 
 pub returns : need.returns
 unfolding componentsOf joined
 returns c =
     let t = c .args .self .now in
-    sym (joined-end (c .args .pid) (t .rows) (t .len) (c .loop-i .i) (c .loop-i-test .left) (len-fits t)) ∙ c .loop-i .inv
+    sym (joined-end (c .args .pid) (t .rows) (t .len) (c .loop-i .i) (omega arith) (len-fits t)) ∙ c .loop-i .inv

@@ -3,9 +3,8 @@ use mathlib.Core.Bool.{not}
 use mathlib.Core.Path.{_≡_, sym, ap, _∙_}
 use Prim.Native.Nat.{ℕ, _<_}
 use lib.ListN.{length, take}
-use Rattle.std.specs.shelf.Lists.{kept-by}
 use Rattle.std.proofs.shelf.Filters.{keeping-more-no, keeping-more-set}
-use Rattle.component.specs.Leavings.{leaves}
+use Rattle.component.specs.Leavings.{staying}
 use Rattle.component.proofs.components.calls.squeeze.Needs as need
 use Rattle.component.proofs.components.calls.squeeze.Needs.{then-not-takes, else-not-takes}
 
@@ -21,4 +20,4 @@ pub returns : need.returns
 returns c =
     let i = c .loop-i .inv in
     let at : c .loop-i .i ≡ c .args .len = omega arith in
-    record { front = i .front ∙ ap (λ (n : ℕ). kept-by (λ r. not (leaves (c .args .leaving) r)) (take n (c .args .rows .now))) at; few = omega (arith, i .behind) }
+    record { front = i .front ∙ ap (λ (n : ℕ). staying (c .args .leaving) (take n (c .args .rows .now))) at; few = omega (arith, i .behind) }
