@@ -6,7 +6,9 @@ mod pass;
 mod plan;
 
 pub use fault::BatchFault;
+pub use fault::BatchFaultDebug;
 pub use fault::BatchFaultFromPacket;
+pub use fault::BatchFaultPartialEq;
 pub use keyring::Keyring;
 pub use pass::descramble;
 pub use pass::scramble;
