@@ -3,7 +3,7 @@ use mathlib.Core.Bool.{true, false, cond, not, _&&_, _||_}
 use mathlib.Core.List.{List, [], _∷_, _++_}
 use mathlib.Core.Path.{_≡_}
 use Prim.Native.Nat.{ℕ, _+_, _≤_}
-use lib.Dec.{eqb, leb, ltb}
+use lib.Dec.{eqb, ltb}
 use lib.ListN.{length}
 use Rattle.std.specs.Options.{isSome}
 use Rattle.std.specs.Results.{isOk}
@@ -16,12 +16,11 @@ use Rattle.batch.specs.Batches.{batchAnswer, Batched}
 use Rattle.batch.specs.declared.fault.BatchFault.{BatchFault}
 use Rattle.batch.specs.declared.plan.Direction.{Direction}
 use Rattle.cipher.specs.Bytes.{Bytes}
-use Rattle.cipher.specs.Profiles.{Meaning}
 use Rattle.component.specs.Table.{withoutService}
-use Rattle.shelf.specs.Meaning.{ShelfMeaning, here}
+use Rattle.shelf.specs.Meaning.{here}
 use Rattle.shelf.specs.declared.faults.ShelfFault.the-variants.{TooSoon}
 use Rattle.word.specs.declared.parity.Parity.{Parity}
-use Rattle.engine.specs.Model.{Model, isOpen, keysOf}
+use Rattle.engine.specs.Model.{Model, Given, isOpen, keysOf}
 use Rattle.engine.specs.declared.desk.Slot.{Slot}
 use Rattle.engine.specs.declared.desk.Slot.the-variants.{Shut, Live}
 use Rattle.engine.specs.declared.fault.EngineFault.{EngineFault}
@@ -37,19 +36,13 @@ Answer = Result (Unit {0}) EngineFault
 abbrev pub Counts : Type 0
 Counts = Result (ℕ × ℕ) EngineFault
 
--- what an engine is made of
-pub record Given : Type 0 where
-  pub profile : Meaning
-  pub shelf : ShelfMeaning
-  pub tag : ℕ
-
 -- an engine as it is made: its 32 services hold nothing and are shut, and nothing is joined
 pub record Makes (given : Given) (after : Model) : Type 0 where
   pub profile : after .profile ≡ given .profile
   -- the initial vector is sixteen bytes
   pub long : length (given .profile .iv) ≡ 16
   pub bytes : Bytes (given .profile .iv)
-  pub held : (k : ℕ) (q : Parity) → after .shelf .held k q ≡ cond (leb k 31) None (given .shelf .held k q)
+  pub held : (k : ℕ) (q : Parity) → after .shelf .held k q ≡ cond (ltb k 32) None (given .shelf .held k q)
   pub next : after .shelf .next ≡ given .shelf .next
   pub reads : after .shelf .reads ≡ given .shelf .reads
   pub slots : (k : ℕ) → after .slots k ≡ Shut

@@ -63,3 +63,25 @@ modelOf c t s e = record {
 -- what a batch asks of an engine
 abbrev pub keysOf : Model → Keys
 keysOf m = record { joined = m .joined; picked = λ k. parityIn (m .slots k); held = m .shelf .held }
+
+-- what an engine is made of
+pub record Given : Type 0 where
+  pub profile : Meaning
+  pub shelf : ShelfMeaning
+  pub tag : ℕ
+
+abbrev pub givenOf : {C T S : Type 0} → CipherGhosts C → TailGhosts T → ShelfGhosts S → C → T → List ℕ → S → ℕ → Given
+givenOf c t s cipher tail iv shelf tag = record {
+  profile = record {
+    width = c .width;
+    scheduleLength = c .scheduleLength;
+    schedule = c .schedule cipher;
+    E = c .E cipher;
+    D = c .D cipher;
+    on = t .on tail;
+    off = t .off tail;
+    iv = iv;
+  };
+  shelf = meaningOf s shelf;
+  tag = tag;
+}

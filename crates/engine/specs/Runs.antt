@@ -7,8 +7,8 @@ use Rattle.std.specs.declared.result.Result.the-variants.{Ok}
 use Rattle.batch.specs.declared.plan.Direction.the-variants.{Scramble, Descramble}
 use Rattle.shelf.specs.Examined.{examined}
 use Rattle.word.specs.declared.parity.Parity.{Parity}
-use Rattle.engine.specs.Calls.{Answer, Counts, Given, Makes, Opens, Closes, Joins, Leaves, Loads, Picks, Batches}
-use Rattle.engine.specs.Model.{Model}
+use Rattle.engine.specs.Calls.{Answer, Counts, Makes, Opens, Closes, Joins, Leaves, Loads, Picks, Batches}
+use Rattle.engine.specs.Model.{Model, Given}
 use Rattle.engine.specs.declared.fault.EngineFault.{EngineFault}
 use Rattle.engine.specs.declared.grant.Grant.{Grant}
 use Rattle.engine.specs.declared.grant.Unclosed.{Unclosed}

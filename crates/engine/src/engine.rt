@@ -1,5 +1,8 @@
+// What an engine is. `calls` has what it does.
 use crate::desk::Desk;
 use cipher::Profile;
+
+mod calls;
 
 /// A scrambling engine over any cipher, tail rule and shelf.
 #[derive(Drop)]

@@ -1,9 +1,10 @@
 use crate::fault::EngineFault;
 
-/// The right to close a service at the engine of a tag. It has no Drop: whoever holds it gives it back by close.
+/// The right to close a service at the engine of a tag.
+/// It has no Drop: whoever holds it gives it back by close.
 pub struct Grant {
-    tag: u16,
-    service: u8,
+    pub(crate) tag: u16,
+    pub(crate) service: u8,
 }
 
 /// A refused close: the grant, handed back, and why.

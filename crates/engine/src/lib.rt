@@ -5,6 +5,7 @@ mod fault;
 mod grant;
 
 pub use desk::Desk;
+pub use desk::DeskKeyring;
 pub use desk::Slot;
 pub use engine::Engine;
 pub use fault::EngineFault;
