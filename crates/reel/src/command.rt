@@ -1,10 +1,10 @@
 // What the words of the command line ask for.
-use crate::keys::OneWord;
 use entry::EntryFault;
 use entry::enter_word;
 use std::alloc::AllocError;
 use std::alloc::Global;
 use word::Parity;
+use word::Word;
 
 #[derive(Clone, Copy)]
 pub enum Task {
@@ -20,12 +20,20 @@ pub enum ProfileName {
     Des,
 }
 
+/// The word, its parity and the PIDs that it is for.
+#[derive(Drop)]
+pub struct Keys {
+    pub parity: Parity,
+    pub word: Word,
+    pub pids: Vec<u16>,
+}
+
 /// A task on a stream, under one word.
 #[derive(Drop)]
 pub struct Command {
     pub task: Task,
     pub profile: ProfileName,
-    pub keys: OneWord,
+    pub keys: Keys,
     pub input: String,
     /// Where the result goes; empty in a rehearsal.
     pub output: String,
@@ -88,17 +96,18 @@ fn pid_of(text: &str) -> Option<u16> {
     }
 }
 
-// Joins each PID of a list with commas.
-fn join_all(keys: &mut OneWord, list: &str) -> Result<(), BadCommand> {
+// The PIDs of a list with commas.
+fn pids_of(heap: Global, list: &str) -> Result<Vec<u16>, BadCommand> {
+    let mut pids = Vec::new(heap);
     for text in list.split(',') {
         let Some(pid) = pid_of(text) else {
             return Err(BadCommand::Usage("a PID is a number, decimal or after 0x"));
         };
-        if !keys.join(pid) {
-            return Err(BadCommand::Usage("a PID is 32 to 8190"));
+        if pids.push(pid).is_err() {
+            return Err(BadCommand::NoMemory);
         }
     }
-    Ok(())
+    Ok(pids)
 }
 
 // The word at that place, or an empty one.
@@ -109,20 +118,19 @@ fn at(words: &[String], place: usize) -> &str {
     }
 }
 
-// The keys that seven words from a place on give: parity, four groups, PIDs.
-fn keys_from(words: &[String]) -> Result<OneWord, BadCommand> {
+// The keys: parity, the four groups of the word, PIDs.
+fn keys_from(heap: Global, words: &[String]) -> Result<Keys, BadCommand> {
     let parity = parity_of(at(words, 2))?;
     let word = enter_word(at(words, 3), at(words, 4), at(words, 5), at(words, 6))?;
-    let mut keys = OneWord::new(parity, word);
-    join_all(&mut keys, at(words, 7))?;
-    Ok(keys)
+    let pids = pids_of(heap, at(words, 7))?;
+    Ok(Keys { parity, word, pids })
 }
 
 /// The command of these words, which begin after the program's name.
 pub fn parse(heap: Global, words: &[String]) -> Result<Command, BadCommand> {
     let task = task_of(at(words, 0))?;
     let profile = profile_of(at(words, 1))?;
-    let keys = keys_from(words)?;
+    let keys = keys_from(heap, words)?;
     let input = String::from_str(heap, at(words, 8))?;
     let output = String::from_str(heap, at(words, 9))?;
     if input.is_empty() {

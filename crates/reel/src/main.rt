@@ -1,7 +1,7 @@
 // Scrambles, descrambles or rehearses a transport stream file, and prints what happened.
 mod command;
-mod keys;
 mod report;
+mod station;
 mod stream;
 mod tally;
 
@@ -10,6 +10,7 @@ use cipher::MaskedTailRule;
 use command::BadCommand;
 use command::Command;
 use command::ProfileName;
+use command::Task;
 use profile::Aes128Cipher;
 use profile::DesCipher;
 use profile::cissa_profile;
@@ -31,10 +32,13 @@ fn run(rt: &LibcRuntime) -> Result<(), AnyError> {
 }
 
 fn carry_out(rt: &LibcRuntime, command: &Command) -> Result<(), AnyError> {
-    match command.profile {
-        ProfileName::Cissa => stream::carry_out(rt, &cissa_profile(), command),
-        ProfileName::Idsa => stream::carry_out(rt, &idsa_profile(), command),
-        ProfileName::Des => stream::carry_out(rt, &des_profile(), command),
+    match (command.task, command.profile) {
+        (Task::Rehearse, ProfileName::Cissa) => stream::rehearse(rt, cissa_profile(), cissa_profile(), command),
+        (Task::Rehearse, ProfileName::Idsa) => stream::rehearse(rt, idsa_profile(), idsa_profile(), command),
+        (Task::Rehearse, ProfileName::Des) => stream::rehearse(rt, des_profile(), des_profile(), command),
+        (_, ProfileName::Cissa) => stream::convert(rt, cissa_profile(), command),
+        (_, ProfileName::Idsa) => stream::convert(rt, idsa_profile(), command),
+        (_, ProfileName::Des) => stream::convert(rt, des_profile(), command),
     }
 }
 

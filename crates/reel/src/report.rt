@@ -3,6 +3,7 @@ use crate::command::Command;
 use crate::command::ProfileName;
 use crate::command::Task;
 use crate::tally::Tally;
+use engine::EngineFault;
 use batch::BatchFault;
 use fault::Layer;
 use fault::Refusal;
@@ -55,21 +56,26 @@ pub fn print_entry_refusal(rt: &LibcRuntime, refusal: &Refusal) -> io::Result<()
     eprintln!(rt, "at: group {group}, {what} {place}")
 }
 
-/// A refused batch; `done` is how many packets came before it.
-pub fn print_refusal(rt: &LibcRuntime, fault: &BatchFault, done: u64) -> io::Result<()> {
+/// A refused call of the engine; `done` is how many packets came before a refused batch.
+pub fn print_refusal(rt: &LibcRuntime, fault: &EngineFault, done: u64) -> io::Result<()> {
     let refusal = fault.refusal();
     let number = refusal.number;
     let layer = layer_name(refusal.layer);
     let meaning = refusal.meaning();
     eprintln!(rt, "refused: {number} ({meaning})")?;
     eprintln!(rt, "layer: {layer}")?;
-    if let BatchFault::BatchLength { length } = fault {
-        let packet = done.saturating_add((*length / 188) as u64);
-        return eprintln!(rt, "at: packet {packet}, in which the stream ends");
+    match fault {
+        EngineFault::Batch(BatchFault::BatchLength { length }) => {
+            let packet = done.saturating_add((*length / 188) as u64);
+            eprintln!(rt, "at: packet {packet}, in which the stream ends")
+        }
+        EngineFault::Batch(_) => {
+            let packet = done.saturating_add(refusal.first);
+            let byte = refusal.second;
+            eprintln!(rt, "at: packet {packet}, byte {byte}")
+        }
+        _ => Ok(()),
     }
-    let packet = done.saturating_add(refusal.first);
-    let byte = refusal.second;
-    eprintln!(rt, "at: packet {packet}, byte {byte}")
 }
 
 /// A stream that cannot be read, and why.
@@ -104,7 +110,7 @@ fn task_name(task: Task) -> &'static str {
 pub fn print_tally(rt: &LibcRuntime, command: &Command, tally: &Tally) -> io::Result<()> {
     let task = task_name(command.task);
     let profile = profile_name(command.profile);
-    let parity = parity_name(command.keys.parity());
+    let parity = parity_name(command.keys.parity);
     println!(rt, "{task}: profile {profile}, {parity} word")?;
     let read = tally.all.read;
     let changed = tally.all.changed;

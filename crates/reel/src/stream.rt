@@ -2,18 +2,19 @@
 ghost use Prim.Native.Nat.{_≤_};
 ghost use lib.ListN.{length};
 ghost use Rattle.std.specs.Vec.{made};
-use crate::command::Command;
-use crate::command::Task;
-use crate::keys::OneWord;
-use crate::keys::OneWordKeyring;
-use crate::report;
-use crate::tally::Tally;
-use batch::BatchFault;
-use batch::descramble;
-use batch::scramble;
 use cipher::Cipher;
 use cipher::Profile;
 use cipher::TailRule;
+use crate::command::Command;
+use crate::command::Task;
+use crate::report;
+use crate::station::Station;
+use crate::station::finish;
+use crate::station::start;
+use crate::tally::Tally;
+use engine::EngineFault;
+use law::every_run_is_lawful;
+use shelf::PlainShelfShelf;
 use std::error::AnyError;
 use std::fs::File;
 use std::io;
@@ -27,29 +28,6 @@ const BATCH: usize = 12032;
 // After so many packets a line on standard error says how far the run is.
 const PROGRESS: u64 = 1 << 20;
 
-// Memory for the longest schedule that a cipher may have.
-const LONGEST_SCHEDULE: usize = 4096;
-
-/// Carries out a command under its profile.
-pub fn carry_out<C: Cipher, T: TailRule>(
-    rt: &LibcRuntime,
-    profile: &Profile<C, T>,
-    command: &Command,
-) -> Result<(), AnyError> {
-    match command.task {
-        Task::Scramble | Task::Descramble => {
-            let tally = convert(rt, profile, command)?;
-            report::print_tally(rt, command, &tally)?;
-        }
-        Task::Rehearse => {
-            let tally = work_through(rt, profile, command, &mut Destination::Nowhere)?;
-            report::print_tally(rt, command, &tally)?;
-            println!(rt, "every packet came back byte for byte")?;
-        }
-    }
-    Ok(())
-}
-
 /// Where a changed stream goes.
 #[derive(Drop)]
 enum Destination {
@@ -57,39 +35,54 @@ enum Destination {
     Into(File),
 }
 
-// Reads until the buffer is full or the input ends, and answers how many bytes came.
-fn fill(input: &mut File, buffer: &mut [u8]) -> io::Result<usize>
-    ensures { λ r. ⌜ made r (λ n. n ≤ length (now (buffer .entry))) ⌝ }
-{
-    let mut filled = 0;
-    while filled < buffer.len() {
-        let n = input.read(&mut buffer[filled..])?;
-        if n == 0 {
-            break;
-        }
-        filled += n;
-    }
-    Ok(filled)
+/// Scrambles or descrambles a stream into a file.
+pub fn convert<C: Cipher + Drop, T: TailRule + Drop>(
+    rt: &LibcRuntime,
+    profile: Profile<C, T>,
+    command: &Command,
+) -> Result<(), AnyError> {
+    let station = match start(profile, &command.keys) {
+        Ok(station) => station,
+        Err(fault) => return Err(refused(rt, &fault, 0)),
+    };
+    let result = convert_safely(rt, &station, command);
+    finish(station);
+    let tally = result?;
+    report::print_tally(rt, command, &tally)?;
+    Ok(())
 }
 
-// Scrambles or descrambles a batch in place.
-fn change_batch<C: Cipher, T: TailRule>(
-    task: Task,
-    profile: &Profile<C, T>,
-    keys: &OneWord,
-    batch: &mut [u8],
-) -> Result<(usize, usize), BatchFault> {
-    let mut memory = [0; LONGEST_SCHEDULE];
-    let n = profile.cipher.schedule_len();
-    let area = &mut memory[0..n];
-    match task {
-        Task::Scramble | Task::Rehearse => scramble(profile, keys, area, batch),
-        Task::Descramble => descramble(profile, keys, area, batch),
-    }
+/// Scrambles a stream in memory at one engine, brings it back at another and compares every byte.
+/// That it comes back is proved of every stream: the contract of `every_run_is_lawful` says so.
+pub fn rehearse<C: Cipher + Drop, T: TailRule + Drop>(
+    rt: &LibcRuntime,
+    profile: Profile<C, T>,
+    other: Profile<C, T>,
+    command: &Command,
+) -> Result<(), AnyError> {
+    every_run_is_lawful::<C, T, PlainShelfShelf, C, T, PlainShelfShelf>();
+    let near = match start(profile, &command.keys) {
+        Ok(station) => station,
+        Err(fault) => return Err(refused(rt, &fault, 0)),
+    };
+    let far = match start(other, &command.keys) {
+        Ok(station) => station,
+        Err(fault) => {
+            finish(near);
+            return Err(refused(rt, &fault, 0));
+        }
+    };
+    let result = work_through(rt, &near, &far, command, &mut Destination::Nowhere);
+    finish(near);
+    finish(far);
+    let tally = result?;
+    report::print_tally(rt, command, &tally)?;
+    println!(rt, "every packet came back byte for byte")?;
+    Ok(())
 }
 
 // A refusal is printed whole; what is left to say is short.
-fn refused(rt: &LibcRuntime, fault: &BatchFault, done: u64) -> AnyError {
+fn refused(rt: &LibcRuntime, fault: &EngineFault, done: u64) -> AnyError {
     match report::print_refusal(rt, fault, done) {
         Ok(()) => "the stream was refused, and nothing was written".into(),
         Err(error) => error.into(),
@@ -107,6 +100,21 @@ fn open_input(rt: &LibcRuntime, path: &str) -> Result<File, AnyError> {
     }
 }
 
+// Reads until the buffer is full or the input ends, and answers how many bytes came.
+fn fill(input: &mut File, buffer: &mut [u8]) -> io::Result<usize>
+    ensures { λ r. ⌜ made r (λ n. n ≤ length (now (buffer .entry))) ⌝ }
+{
+    let mut filled = 0;
+    while filled < buffer.len() {
+        let n = input.read(&mut buffer[filled..])?;
+        if n == 0 {
+            break;
+        }
+        filled += n;
+    }
+    Ok(filled)
+}
+
 // Shows progress each time another million packets or so are done.
 fn progress(rt: &LibcRuntime, before: u64, after: u64) -> io::Result<()> {
     if before / PROGRESS < after / PROGRESS {
@@ -116,14 +124,14 @@ fn progress(rt: &LibcRuntime, before: u64, after: u64) -> io::Result<()> {
 }
 
 // Writes the changed stream beside the output, and gives it its name once all of it is there.
-fn convert<C: Cipher, T: TailRule>(
+fn convert_safely<C: Cipher, T: TailRule>(
     rt: &LibcRuntime,
-    profile: &Profile<C, T>,
+    station: &Station<C, T>,
     command: &Command,
 ) -> Result<Tally, AnyError> {
     let output = command.output.as_str();
     let part = format!(rt.alloc(), "{output}.part")?;
-    match convert_into(rt, profile, command, part.as_str()) {
+    match convert_into(rt, station, command, part.as_str()) {
         Ok(tally) => {
             rt.rename(part.as_str(), output)?;
             Ok(tally)
@@ -137,12 +145,12 @@ fn convert<C: Cipher, T: TailRule>(
 
 fn convert_into<C: Cipher, T: TailRule>(
     rt: &LibcRuntime,
-    profile: &Profile<C, T>,
+    station: &Station<C, T>,
     command: &Command,
     part: &str,
 ) -> Result<Tally, AnyError> {
     let mut destination = Destination::Into(File::create(rt, part)?);
-    let tally = work_through(rt, profile, command, &mut destination)?;
+    let tally = work_through(rt, station, station, command, &mut destination)?;
     if let Destination::Into(file) = &mut destination {
         file.flush()?;
     }
@@ -152,22 +160,15 @@ fn convert_into<C: Cipher, T: TailRule>(
 // Takes the stream batch by batch. One that holds no packet is refused: it is no recording.
 fn work_through<C: Cipher, T: TailRule>(
     rt: &LibcRuntime,
-    profile: &Profile<C, T>,
+    near: &Station<C, T>,
+    far: &Station<C, T>,
     command: &Command,
     destination: &mut Destination,
 ) -> Result<Tally, AnyError> {
     let mut input = open_input(rt, command.input.as_str())?;
     let mut tally = Tally::new(rt.alloc());
     let mut buffer = [0; BATCH];
-    each_batch(
-        rt,
-        profile,
-        command,
-        &mut input,
-        destination,
-        &mut buffer,
-        &mut tally,
-    )?;
+    each_batch(rt, near, far, command, &mut input, destination, &mut buffer, &mut tally)?;
     if tally.all.read == 0 {
         return Err("the stream is empty".into());
     }
@@ -176,7 +177,8 @@ fn work_through<C: Cipher, T: TailRule>(
 
 fn each_batch<C: Cipher, T: TailRule>(
     rt: &LibcRuntime,
-    profile: &Profile<C, T>,
+    near: &Station<C, T>,
+    far: &Station<C, T>,
     command: &Command,
     input: &mut File,
     destination: &mut Destination,
@@ -190,58 +192,65 @@ fn each_batch<C: Cipher, T: TailRule>(
         }
         let done = tally.all.read;
         match destination {
-            Destination::Nowhere => rehearse_batch(rt, profile, command, &mut buffer[0..n], tally)?,
-            Destination::Into(file) => convert_batch(
-                rt,
-                profile,
-                command,
-                &mut buffer[0..n],
-                file,
-                tally,
-            )?,
+            Destination::Nowhere => rehearse_batch(rt, near, far, command, &mut buffer[0..n], tally)?,
+            Destination::Into(file) => convert_batch(rt, near, command, &mut buffer[0..n], file, tally)?,
         }
         progress(rt, done, tally.all.read)?;
     }
     Ok(())
 }
 
+// Scrambles or descrambles a batch in place, with a key area of its own.
+fn change_batch<C: Cipher, T: TailRule>(
+    rt: &LibcRuntime,
+    station: &Station<C, T>,
+    task: Task,
+    batch: &mut [u8],
+    done: u64,
+) -> Result<(), AnyError> {
+    let mut area = vec![in rt.alloc(); 0; station.schedule_len]?;
+    let answer = match task {
+        Task::Scramble | Task::Rehearse => station.engine.scramble(area.as_mut_slice(), batch),
+        Task::Descramble => station.engine.descramble(area.as_mut_slice(), batch),
+    };
+    match answer {
+        Ok(_) => Ok(()),
+        Err(fault) => Err(refused(rt, &fault, done)),
+    }
+}
+
 fn convert_batch<C: Cipher, T: TailRule>(
     rt: &LibcRuntime,
-    profile: &Profile<C, T>,
+    station: &Station<C, T>,
     command: &Command,
     batch: &mut [u8],
     file: &mut File,
     tally: &mut Tally,
 ) -> Result<(), AnyError> {
     let before = batch.to_vec(rt.alloc())?;
-    if let Err(fault) = change_batch(command.task, profile, &command.keys, batch) {
-        return Err(refused(rt, &fault, tally.all.read));
-    }
+    change_batch(rt, station, command.task, batch, tally.all.read)?;
     file.write_all(batch)?;
     tally.add(before.as_slice(), batch)?;
     Ok(())
 }
 
-// Scrambles a batch in memory, brings it back and compares every byte.
+// Scrambles a batch in memory, brings it back at the other engine and compares every byte.
 fn rehearse_batch<C: Cipher, T: TailRule>(
     rt: &LibcRuntime,
-    profile: &Profile<C, T>,
+    near: &Station<C, T>,
+    far: &Station<C, T>,
     command: &Command,
     batch: &mut [u8],
     tally: &mut Tally,
 ) -> Result<(), AnyError> {
     let clear = batch.to_vec(rt.alloc())?;
     let done = tally.all.read;
-    if let Err(fault) = change_batch(Task::Scramble, profile, &command.keys, batch) {
-        return Err(refused(rt, &fault, done));
-    }
+    change_batch(rt, near, Task::Scramble, batch, done)?;
     tally.add(clear.as_slice(), batch)?;
     if command.shows_packets {
         show_changed(rt, clear.as_slice(), batch, done)?;
     }
-    if let Err(fault) = change_batch(Task::Descramble, profile, &command.keys, batch) {
-        return Err(refused(rt, &fault, done));
-    }
+    change_batch(rt, far, Task::Descramble, batch, done)?;
     if !same_bytes(clear.as_slice(), batch) {
         return Err("a packet did not come back".into());
     }
