@@ -2,20 +2,19 @@
 use mathlib.Core.Bool.{Bool, true, false, cond}
 use mathlib.Core.List.{List, [], _∷_}
 use mathlib.Core.Path.{_≡_, refl, sym, ap, subst, _∙_}
-use Prim.Native.Nat.{ℕ, _+_, _*_, _/_, _<_, _≤_}
+use Prim.Native.Nat.{ℕ, _+_, _*_, _/_, _<_}
 use native.Mathlib.Omega.{arith}
 use lib.Dec.{eqb}
 use lib.ListN.{length, drop}
 use Rattle.std.proofs.shelf.Elements.{all-take, all-drop}
 use Rattle.std.proofs.shelf.Sums.{sumBy-cons}
 use Rattle.std.proofs.shelf.Tests.{true≢false}
-use Rattle.std.specs.declared.option.Option.{Option}
 use Rattle.std.specs.declared.option.Option.the-variants.{None, Some}
 use Rattle.std.specs.declared.result.Result.{Result}
 use Rattle.std.specs.declared.result.Result.the-variants.{Ok, Err}
 use Rattle.batch.proofs.Passes.{packet-length, packet-of-turned, packets-length}
 use Rattle.batch.proofs.Plans.{change-inside}
-use Rattle.batch.specs.Batches.{Batched, batchAfter, batchAnswer, changed, counted, fits, objectionAt}
+use Rattle.batch.specs.Batches.{batchAfter, batchAnswer, changed, counted, fits, objectionAt}
 use Rattle.batch.specs.Packets.{packetAt, packets, firstFault, follow, followed, changes, changedCount, passedCount}
 use Rattle.batch.specs.Plan.{Keys, Plan, planOf}
 use Rattle.batch.specs.declared.fault.BatchFault.{BatchFault}
@@ -27,7 +26,7 @@ use Rattle.cipher.proofs.RoundTrip.{Lawful}
 use Rattle.cipher.specs.Bytes.{Byte, Bytes, Block}
 use Rattle.cipher.specs.Profiles.{Meaning}
 use Rattle.packet.specs.Header.{headerOf, pidOf}
-use Rattle.restoring.specs.Restoring.{Alike, Scrambled, Restores, Leaves, CountsAll}
+use Rattle.restoring.specs.Restoring.{Alike, Restores, Leaves, CountsAll}
 use Rattle.restoring.proofs.Packets.{changed-long, packet-restored, packet-scrambled}
 
 -- a packet of a batch of bytes

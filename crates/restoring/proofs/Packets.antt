@@ -1,10 +1,10 @@
 -- One packet, scrambled and descrambled.
 use mathlib.Core.List.{List, [], _∷_, _++_}
 use mathlib.Core.Path.{_≡_, refl, sym, ap, _∙_, fun-ext}
-use Prim.Native.Nat.{ℕ, zero, suc, _+_, _-_, _*_, _/_, _%_, _≤_, _<_}
+use Prim.Native.Nat.{ℕ, zero, suc, _+_, _*_, _/_, _%_, _≤_}
 use native.Mathlib.Omega.{arith}
 use lib.Dec.{eqb}
-use lib.ListN.{length, getD, set, take, drop}
+use lib.ListN.{length, getD, take, drop}
 use Rattle.std.proofs.shelf.Elements.{all-drop}
 use Rattle.std.proofs.shelf.Lists.{take-at, drop-at, length-take-le, length-drop, length-append, length-set, take-append-drop}
 use Rattle.std.specs.declared.option.Option.the-variants.{Some}
@@ -19,13 +19,13 @@ use Rattle.batch.specs.declared.plan.Direction.the-variants.{Scramble, Descramb
 use Rattle.cipher.proofs.RoundTrip.{Lawful, restored}
 use Rattle.cipher.specs.Bytes.{Byte, Bytes, Block}
 use Rattle.cipher.specs.Profiles.{Meaning, scrambled, descrambled}
-use Rattle.packet.specs.Header.{adaptationOf, controlBits, controlOf, headerOf, payloadStart, pidOf, startOf, withControl}
+use Rattle.packet.specs.Header.{adaptationOf, controlBits, controlOf, headerOf, pidOf, startOf, withControl}
 use Rattle.packet.specs.declared.header.ScramblingControl.the-variants as control
 use Rattle.word.specs.declared.parity.Parity.{Parity}
 use Rattle.word.specs.declared.parity.Parity.the-variants as parity
 use Rattle.word.specs.declared.word.Word.{Word}
 use Rattle.restoring.specs.Restoring.{Alike, Scrambled}
-use Rattle.restoring.proofs.Plans.{Planned, planned, plan-back, clear-bits, same-start}
+use Rattle.restoring.proofs.Plans.{planned, plan-back, clear-bits, same-start}
 
 payload-long : (d : Direction) (m : Meaning) → Lawful m → Block 16 (m .iv) → (w : Word) (p : List ℕ) → Bytes p → length (payloadAfter d m w p) ≡ length p
 payload-long Scramble m laws iv w p hp = restored m laws w p iv hp .scrambled-long

@@ -10,10 +10,9 @@ use Rattle.std.specs.declared.option.Option.the-variants.{None, Some}
 use Rattle.std.specs.declared.result.Result.{Result}
 use Rattle.std.specs.declared.result.Result.the-variants.{Ok, Err}
 use Rattle.batch.specs.Batches.{controlAfter}
-use Rattle.batch.specs.Plan.{Keys, Plan, withWord, withPicked, scramblePlan, descramblePlan, directed, withPayload, withService, planFor}
+use Rattle.batch.specs.Plan.{Keys, Plan, withWord, withPicked, scramblePlan, descramblePlan, withPayload, withService, planFor}
 use Rattle.batch.specs.declared.plan.Change.{Change}
 use Rattle.batch.specs.declared.plan.Direction.the-variants.{Scramble, Descramble}
-use Rattle.batch.specs.declared.plan.Objection.{Objection}
 use Rattle.batch.specs.declared.plan.Objection.the-variants.{BadHeader, NoWord}
 use Rattle.packet.specs.Header.{controlOf, payloadStart, startOf}
 use Rattle.packet.specs.declared.fault.HeaderFault.{HeaderFault}
@@ -145,7 +144,7 @@ plan-back keys h s c sync sound joined starts shows held =
     ∙ ap (withPayload (descramblePlan keys s (h .control))) starts
     ∙ shown-word keys s (h .control) (c .word) (c .parity) (c .start) shows held
 
--- what is passed in one direction is passed in the other: only a clear packet could be, and it is not when it is scrambled
+-- a payload that is to be scrambled never passes
 never-passed : (keys : Keys) (s start : ℕ) (k : ScramblingControl) → scramblePlan keys s k start ≡ Ok None → ⊥
 never-passed keys s start control.Clear e = picked (keys .picked s) e
   where
@@ -160,6 +159,7 @@ never-passed keys s start control.Reserved e = refused _ _ e
 never-passed keys s start control.Even e = refused _ _ e
 never-passed keys s start control.Odd e = refused _ _ e
 
+-- what passes when it is to be scrambled passes when it is to be descrambled
 pub passed-back : (keys : Keys) (h : Header) → planFor Scramble keys h ≡ Ok None → planFor Descramble keys h ≡ Ok None
 passed-back keys h e = tests (eqb (h .sync) 0x47) (h .error) e
   where

@@ -1,12 +1,12 @@
 -- A batch that was scrambled and is descrambled with the same keys.
-use mathlib.Core.Bool.{Bool, true, false, cond}
+use mathlib.Core.Bool.{Bool, true, cond}
 use mathlib.Core.List.{List, [], _∷_, _++_, map}
 use mathlib.Core.Path.{_≡_, refl, sym, ap, subst, _∙_}
-use Prim.Native.Nat.{ℕ, zero, suc, _+_, _*_, _/_, _%_, _<_, _≤_}
+use Prim.Native.Nat.{ℕ, zero, suc, _+_, _*_, _/_, _%_, _<_}
 use native.Mathlib.Numerals.{add-one}
 use native.Mathlib.Omega.{arith}
 use lib.Dec.{eqb, leb}
-use lib.ListN.{length, getD, take, drop, replicate}
+use lib.ListN.{length, getD, take, replicate}
 use lib.Seq.{take-add}
 use Rattle.std.proofs.shelf.Lists.{take-all}
 use Rattle.std.proofs.shelf.Tests.{and-parts, eqb-true}
@@ -27,11 +27,11 @@ use Rattle.batch.specs.declared.plan.Change.{Change}
 use Rattle.batch.specs.declared.plan.Direction.the-variants.{Scramble, Descramble}
 use Rattle.batch.specs.declared.plan.Objection.{Objection}
 use Rattle.cipher.proofs.RoundTrip.{Lawful}
-use Rattle.cipher.specs.Bytes.{Bytes, Block}
+use Rattle.cipher.specs.Bytes.{Block}
 use Rattle.cipher.specs.Profiles.{Meaning}
-use Rattle.packet.specs.Header.{headerOf, pidOf}
+use Rattle.packet.specs.Header.{headerOf}
 use Rattle.restoring.specs.Restoring.{Alike}
-use Rattle.restoring.proofs.Calls.{packet-block, packet-after, Accepted, accepted}
+use Rattle.restoring.proofs.Calls.{packet-block, packet-after, accepted}
 use Rattle.restoring.proofs.Packets.{packet-shows, packet-planned, packet-restored}
 use Rattle.restoring.proofs.Plans.{planned, passed-back}
 
