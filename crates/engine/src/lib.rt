@@ -3,6 +3,8 @@ mod desk;
 mod engine;
 mod fault;
 mod grant;
+#[cfg(test)]
+mod tests;
 
 pub use desk::Desk;
 pub use desk::DeskKeyring;
