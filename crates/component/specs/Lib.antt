@@ -1,0 +1,3 @@
+pub mod Leavings
+pub mod Rows
+pub mod Table
