@@ -12,8 +12,8 @@ use Rattle.std.specs.declared.option.Option.{Option}
 use Rattle.std.specs.declared.option.Option.the-variants.{None, Some}
 use Rattle.cipher.specs.Bytes.{Block}
 use Rattle.component.specs.Table.{withoutService}
-use Rattle.engine.specs.Calls.{Answer, Given, Loads}
-use Rattle.engine.specs.Model.{Model, isOpen, parityIn}
+use Rattle.engine.specs.Calls.{Answer, Loads}
+use Rattle.engine.specs.Model.{Model, Given, isOpen, parityIn}
 use Rattle.engine.specs.Runs.{Call, opens, closes, joins, leaves, loads, picks, scrambles, descrambles, Step, Run, made, more}
 use Rattle.engine.specs.declared.desk.Slot.the-variants.{Shut, Live}
 use Rattle.shelf.specs.Meaning.{ShelfMeaning, here, sameParity}

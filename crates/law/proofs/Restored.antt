@@ -19,8 +19,8 @@ use Rattle.batch.specs.declared.plan.Direction.the-variants.{Scramble, Descramb
 use Rattle.cipher.proofs.RoundTrip.{Lawful}
 use Rattle.cipher.specs.Bytes.{Block}
 use Rattle.cipher.specs.Profiles.{Meaning}
-use Rattle.engine.specs.Calls.{Given, countsOf, fromBatch}
-use Rattle.engine.specs.Model.{Model, keysOf}
+use Rattle.engine.specs.Calls.{countsOf, fromBatch}
+use Rattle.engine.specs.Model.{Model, Given, keysOf}
 use Rattle.engine.specs.Runs.{Call}
 use Rattle.packet.specs.Header.{pidOf}
 use Rattle.restoring.proofs.Calls.{restores, leaves}

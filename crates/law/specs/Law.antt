@@ -13,8 +13,8 @@ use Rattle.std.specs.declared.result.Result.the-variants.{Ok}
 use Rattle.batch.specs.Packets.{packetAt}
 use Rattle.batch.specs.Plan.{Keys}
 use Rattle.component.specs.Table.{withoutService}
-use Rattle.engine.specs.Calls.{Answer, Counts, Given}
-use Rattle.engine.specs.Model.{Model, isOpen, parityIn}
+use Rattle.engine.specs.Calls.{Answer, Counts}
+use Rattle.engine.specs.Model.{Model, Given, isOpen, parityIn}
 use Rattle.engine.specs.Runs.{Call, opens, closes, joins, leaves, loads, picks, scrambles, descrambles, Step, Run}
 use Rattle.packet.specs.Header.{pidOf}
 use Rattle.restoring.specs.Restoring.{Alike, Scrambled}
