@@ -33,9 +33,24 @@ fn run(rt: &LibcRuntime) -> Result<(), AnyError> {
 
 fn carry_out(rt: &LibcRuntime, command: &Command) -> Result<(), AnyError> {
     match (command.task, command.profile) {
-        (Task::Rehearse, ProfileName::Cissa) => stream::rehearse(rt, cissa_profile(), cissa_profile(), command),
-        (Task::Rehearse, ProfileName::Idsa) => stream::rehearse(rt, idsa_profile(), idsa_profile(), command),
-        (Task::Rehearse, ProfileName::Des) => stream::rehearse(rt, des_profile(), des_profile(), command),
+        (Task::Rehearse, ProfileName::Cissa) => stream::rehearse(
+            rt,
+            cissa_profile(),
+            cissa_profile(),
+            command,
+        ),
+        (Task::Rehearse, ProfileName::Idsa) => stream::rehearse(
+            rt,
+            idsa_profile(),
+            idsa_profile(),
+            command,
+        ),
+        (Task::Rehearse, ProfileName::Des) => stream::rehearse(
+            rt,
+            des_profile(),
+            des_profile(),
+            command,
+        ),
         (_, ProfileName::Cissa) => stream::convert(rt, cissa_profile(), command),
         (_, ProfileName::Idsa) => stream::convert(rt, idsa_profile(), command),
         (_, ProfileName::Des) => stream::convert(rt, des_profile(), command),

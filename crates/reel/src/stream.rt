@@ -2,9 +2,6 @@
 ghost use Prim.Native.Nat.{_≤_};
 ghost use lib.ListN.{length};
 ghost use Rattle.std.specs.Vec.{made};
-use cipher::Cipher;
-use cipher::Profile;
-use cipher::TailRule;
 use crate::command::Command;
 use crate::command::Task;
 use crate::report;
@@ -12,6 +9,9 @@ use crate::station::Station;
 use crate::station::finish;
 use crate::station::start;
 use crate::tally::Tally;
+use cipher::Cipher;
+use cipher::Profile;
+use cipher::TailRule;
 use engine::EngineFault;
 use law::every_run_is_lawful;
 use shelf::PlainShelfShelf;
@@ -168,7 +168,16 @@ fn work_through<C: Cipher, T: TailRule>(
     let mut input = open_input(rt, command.input.as_str())?;
     let mut tally = Tally::new(rt.alloc());
     let mut buffer = [0; BATCH];
-    each_batch(rt, near, far, command, &mut input, destination, &mut buffer, &mut tally)?;
+    each_batch(
+        rt,
+        near,
+        far,
+        command,
+        &mut input,
+        destination,
+        &mut buffer,
+        &mut tally,
+    )?;
     if tally.all.read == 0 {
         return Err("the stream is empty".into());
     }
@@ -192,8 +201,22 @@ fn each_batch<C: Cipher, T: TailRule>(
         }
         let done = tally.all.read;
         match destination {
-            Destination::Nowhere => rehearse_batch(rt, near, far, command, &mut buffer[0..n], tally)?,
-            Destination::Into(file) => convert_batch(rt, near, command, &mut buffer[0..n], file, tally)?,
+            Destination::Nowhere => rehearse_batch(
+                rt,
+                near,
+                far,
+                command,
+                &mut buffer[0..n],
+                tally,
+            )?,
+            Destination::Into(file) => convert_batch(
+                rt,
+                near,
+                command,
+                &mut buffer[0..n],
+                file,
+                tally,
+            )?,
         }
         progress(rt, done, tally.all.read)?;
     }

@@ -1,11 +1,11 @@
 ghost use mathlib.Core.Bool.{true};
 ghost use mathlib.Core.Path.{_≡_};
 ghost use Rattle.engine.specs.Model.{isOpen, slotsOf};
+use crate::command::Keys;
+use crate::station::Station;
 use cipher::Cipher;
 use cipher::Profile;
 use cipher::TailRule;
-use crate::command::Keys;
-use crate::station::Station;
 use engine::Engine;
 use engine::EngineFault;
 use engine::Grant;

@@ -25,10 +25,13 @@ pub ghost-self : need.ghost-self
 unfolding componentsOf joined
 ghost-self c =
     let t = c .args .self .now in
-    let new = c .args .component in
-    ( length-set (t .rows) (t .len) new ∙ t .long
-    , ( omega (arith, c .pre .room, count-is t)
-      , ( ap apart (take-more-set (t .rows) (t .len) new (free t (c .pre .room))) ∙ apart-more (take (t .len) (t .rows)) new (t .apart) (c .pre .fresh), tt ) ) )
+    let new = c .args .component in (
+      length-set (t .rows) (t .len) new ∙ t .long,
+      (
+        omega (arith, c .pre .room, count-is t),
+        (ap apart (take-more-set (t .rows) (t .len) new (free t (c .pre .room))) ∙ apart-more (take (t .len) (t .rows)) new (t .apart) (c .pre .fresh), tt),
+      ),
+    )
 
 pub returns : need.returns
 unfolding componentsOf joined count
