@@ -3,6 +3,7 @@ use crate::EngineFault;
 use crate::EngineFaultDebug;
 use crate::EngineFaultPartialEq;
 use crate::Grant;
+use crate::Unclosed;
 use batch::Direction;
 use cipher::Cipher;
 use cipher::ClearTail;
@@ -16,7 +17,6 @@ use shelf::PacingShelf;
 use shelf::PlainShelf;
 use shelf::PlainShelfShelf;
 use shelf::Shelf;
-use std::mem::forget;
 use std::test::*;
 use word::Parity;
 
@@ -36,7 +36,7 @@ fn cissa_engine(tag: u16) -> Engine<Aes128, ClearTail, Pacing<PlainShelf>> {
     )
 }
 
-/// Closes a service, or fails. A grant that is still handed back then ends with the test.
+/// Closes a service, or fails: only this crate can take a grant apart that is handed back.
 fn closed<C: Cipher, T: TailRule, S: Shelf>(
     engine: &mut Engine<C, T, S>,
     grant: Grant,
@@ -44,7 +44,8 @@ fn closed<C: Cipher, T: TailRule, S: Shelf>(
     match engine.close(grant) {
         Ok(()) => Ok(()),
         Err(unclosed) => {
-            forget(unclosed);
+            let Unclosed { grant, fault: _ } = unclosed;
+            let Grant { tag: _, service: _ } = grant;
             Err(Fail::new("the grant was refused"))
         }
     }
@@ -80,33 +81,29 @@ fn session<C: Cipher, T: TailRule, S: Shelf>(
     Ok(counts?)
 }
 
-/// A packet of the PID with a payload of 184 equal bytes.
-fn set_packet(packet: &mut [u8], pid: u16, value: u8) {
-    packet.fill(value);
-    if packet.len() > 3 {
-        packet[0] = 0x47;
-        packet[1] = (pid / 256) as u8;
-        packet[2] = (pid % 256) as u8;
-        packet[3] = 0x15;
-    }
+/// A clear packet of the PID with a payload of 184 equal bytes.
+fn packet(pid: u16, value: u8) -> [u8; 188] {
+    let mut packet = [value; 188];
+    packet[0] = 0x47;
+    packet[1] = (pid / 256 % 32) as u8;
+    packet[2] = (pid % 256) as u8;
+    packet[3] = 0x15;
+    packet
 }
 
 #[test]
 fn a_packet_comes_back_at_another_engine() -> Result<(), Fail> {
-    let mut clear = [0; 376];
-    set_packet(&mut clear[0..188], PID, 7);
-    set_packet(&mut clear[188..376], PID + 1, 9);
+    let clear = packet(PID, 7);
     let mut batch = clear;
     check_eq(
         session(&mut cissa_engine(1), 3, Direction::Scramble, &mut batch)?,
-        (1, 1),
+        (1, 0),
     )?;
     check_eq(batch[3], 0xd5)?;
     check(batch[4] != 7 || batch[5] != 7)?;
-    check_eq(batch[191], 0x15)?;
     check_eq(
         session(&mut cissa_engine(2), 5, Direction::Descramble, &mut batch)?,
-        (1, 1),
+        (1, 0),
     )?;
     check_eq(batch, clear)
 }
@@ -128,8 +125,8 @@ fn another_engine_hands_a_grant_back() -> Result<(), Fail> {
     match other.close(grant) {
         Ok(()) => Err(Fail::new("the grant was taken")),
         Err(unclosed) => {
-            let fault = unclosed.fault;
-            closed(&mut engine, unclosed.grant)?;
+            let Unclosed { grant, fault } = unclosed;
+            closed(&mut engine, grant)?;
             check_eq(fault, EngineFault::BadGrant)
         }
     }
