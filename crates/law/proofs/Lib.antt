@@ -1,3 +1,4 @@
 pub mod Answered
 pub mod Keeps
 pub mod Restored
+pub mod Rehearsed
