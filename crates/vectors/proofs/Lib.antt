@@ -1,0 +1,2 @@
+mod Differences
+mod Spelling

@@ -1,0 +1,4 @@
+pub mod Hex
+pub mod Keyring
+pub mod Subjects
+pub mod Vectors
