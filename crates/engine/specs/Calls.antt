@@ -32,7 +32,6 @@ pub record Makes (given : Given) (after : Model) : Type 0 where
   pub bytes : Bytes given.profile.iv
   pub held : (k : ℕ) (q : Parity) → after.shelf.held k q ≡ cond (nat_lt k 32) None (given.shelf.held k q)
   pub next : after.shelf.next ≡ given.shelf.next
-  pub later : after.shelf.next_after ≡ given.shelf.next_after
   pub reads : after.shelf.reads ≡ given.shelf.reads
   pub slots : (k : ℕ) → after.slots k ≡ Shut
   pub components : after.components ≡ []
@@ -75,7 +74,6 @@ pub record Closes (before : Model) (g : Grant) (r : Result (Unit {0}) Unclosed) 
   pub slots : (k : ℕ) → after.slots k ≡ cond (is_ok r && k == g.service) Shut (before.slots k)
   pub held : (k : ℕ) (q : Parity) → after.shelf.held k q ≡ cond (is_ok r && k == g.service) None (before.shelf.held k q)
   pub next : after.shelf.next ≡ before.shelf.next
-  pub later : after.shelf.next_after ≡ before.shelf.next_after
   pub reads : after.shelf.reads ≡ before.shelf.reads
   pub components : after.components ≡ cond (is_ok r) (filter (λ c. not (c.1 == g.service)) before.components) before.components
   pub joined : (k : ℕ) → after.joined k ≡ cond (is_ok r) (without_service g.service (before.joined k)) (before.joined k)
@@ -126,8 +124,6 @@ pub record Loads (before : Model) (n : ℕ) (p : Parity) (entry : List ℕ) (mom
   -- only the next of that service moves, and not far
   pub bound : is_ok r ≡ true → after.shelf.next n ≤ moment + 300
   pub stays : (k : ℕ) → (is_ok r && k == n) ≡ false → after.shelf.next k ≡ before.shelf.next k
-  -- its moment is the first of that service's further ones
-  pub later : (k : ℕ) (moments : List ℕ) → after.shelf.next_after k moments ≡ cond (is_ok r && k == n) (before.shelf.next_after k (moment ∷ moments)) (before.shelf.next_after k moments)
   pub reads : after.shelf.reads ≡ before.shelf.reads
   pub slots : after.slots ≡ before.slots
   pub components : after.components ≡ before.components

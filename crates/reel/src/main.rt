@@ -1,19 +1,13 @@
-// Scrambles, descrambles or rehearses a transport stream, and prints what happened.
+// Scrambles, descrambles or rehearses a transport stream file, and prints what happened.
 mod command;
-mod ends;
-mod keys;
 mod report;
 mod station;
 mod stream;
 mod tally;
 
 use anyhow::anyhow;
-use cipher::{Cipher, Profile, TailRule};
-use command::{BadCommand, Command, KeySource, ProfileName};
-use keys::KeyRing;
+use command::{BadCommand, Command, ProfileName, Task};
 use profile::{cissa_profile, des_profile, idsa_profile};
-use shelf::{PlainShelf, Unwrapping};
-use station::Station;
 use std::env;
 
 fn main(rt: HostRuntime) -> anyhow::Result<()> {
@@ -23,52 +17,42 @@ fn main(rt: HostRuntime) -> anyhow::Result<()> {
 fn run(rt: &HostRuntime) -> anyhow::Result<()> {
     let words: Vec<String> = env::args(rt)?.skip(1).collect(rt.alloc())?;
     match command::parse(rt.alloc(), words.as_slice()) {
-        Ok((command, source)) => carry_out(rt, &command, source),
+        Ok(command) => carry_out(rt, &command),
         Err(bad) => not_understood(rt, bad),
     }
 }
 
-fn carry_out(rt: &HostRuntime, command: &Command, source: KeySource) -> anyhow::Result<()> {
-    let ring = keys::fetch(rt, source)?;
-    match command.profile {
-        ProfileName::Cissa => over_shelf(rt, cissa_profile(), cissa_profile(), command, &ring),
-        ProfileName::Idsa => over_shelf(rt, idsa_profile(), idsa_profile(), command, &ring),
-        ProfileName::Des => over_shelf(rt, des_profile(), des_profile(), command, &ring),
-    }
-}
-
-// The shelf of both stations is the one that the words ask for.
-fn over_shelf<C: Cipher + Drop, T: TailRule + Drop>(
-    rt: &HostRuntime,
-    near: Profile<C, T>,
-    far: Profile<C, T>,
-    command: &Command,
-    ring: &KeyRing,
-) -> anyhow::Result<()> {
-    let heap = rt.alloc();
-    match ring.identifier {
-        None => stream::carry_out(
+fn carry_out(rt: &HostRuntime, command: &Command) -> anyhow::Result<()> {
+    match (command.task, command.profile) {
+        (Task::Rehearse, ProfileName::Cissa) => stream::rehearse(
             rt,
-            Station::new(heap, near, PlainShelf::new()),
-            Station::new(heap, far, PlainShelf::new()),
+            cissa_profile(),
+            cissa_profile(),
             command,
-            &ring.loads,
         ),
-        Some(identifier) => stream::carry_out(
+        (Task::Rehearse, ProfileName::Idsa) => stream::rehearse(
             rt,
-            Station::new(heap, near, Unwrapping::new(identifier, PlainShelf::new())),
-            Station::new(heap, far, Unwrapping::new(identifier, PlainShelf::new())),
+            idsa_profile(),
+            idsa_profile(),
             command,
-            &ring.loads,
         ),
+        (Task::Rehearse, ProfileName::Des) => stream::rehearse(
+            rt,
+            des_profile(),
+            des_profile(),
+            command,
+        ),
+        (_, ProfileName::Cissa) => stream::convert(rt, cissa_profile(), command),
+        (_, ProfileName::Idsa) => stream::convert(rt, idsa_profile(), command),
+        (_, ProfileName::Des) => stream::convert(rt, des_profile(), command),
     }
 }
 
 fn not_understood(rt: &HostRuntime, bad: BadCommand) -> anyhow::Result<()> {
     match bad {
-        BadCommand::Usage(mistake) => {
+        BadCommand::Usage(what) => {
             report::print_usage(rt)?;
-            Err(mistake.text().into())
+            Err(what.into())
         }
         BadCommand::Word(fault) => {
             report::print_entry_refusal(rt, &fault.refusal())?;

@@ -1,36 +1,23 @@
 // What the program prints.
 use crate::command::{Command, ProfileName, Task};
-use crate::keys::Loads;
 use crate::tally::Tally;
 use batch::BatchFault;
 use engine::EngineFault;
 use fault::{Layer, Refusal};
-use log_file::LogFault;
 use std::io;
-use std::io::Write;
 use word::Parity;
 
 /// How the program is called.
 pub fn print_usage(rt: &HostRuntime) -> io::Result<()> {
-    eprintln!(rt; "reel scramble   PROFILE KEYS IN OUT")?;
-    eprintln!(rt; "reel descramble PROFILE KEYS IN OUT")?;
-    eprintln!(rt; "reel rehearse   PROFILE KEYS IN [--packets]")?;
+    eprintln!(rt; "reel scramble   PROFILE PARITY WORD PIDS IN OUT")?;
+    eprintln!(rt; "reel descramble PROFILE PARITY WORD PIDS IN OUT")?;
+    eprintln!(rt; "reel rehearse   PROFILE PARITY WORD PIDS IN [--packets]")?;
     eprintln!(rt; "  PROFILE  cissa, idsa or des")?;
-    eprintln!(rt; "  KEYS     PARITY WORD PIDS, or")?;
-    eprintln!(rt; "           --log LOG [--identifier FILE] [--at MOMENT]")?;
-    print_key_usage(rt)?;
-    eprintln!(rt; "  IN, OUT  transport stream files, or - for standard input and output;")?;
-    eprintln!(rt; "           a rehearsal writes none, and shows the scrambled packets")?;
-    eprintln!(rt; "           after --packets")
-}
-
-fn print_key_usage(rt: &HostRuntime) -> io::Result<()> {
     eprintln!(rt; "  PARITY   even or odd")?;
     eprintln!(rt; "  WORD     four groups of eight hexadecimal digits, leftmost first")?;
     eprintln!(rt; "  PIDS     32 to 8190, with commas, decimal or after 0x")?;
-    eprintln!(rt; "  LOG      a line for each word: SERVICE PIDS PARITY KIND WORD MOMENT")?;
-    eprintln!(rt; "  FILE     the identifier of encrypted words, as four groups")?;
-    eprintln!(rt; "  MOMENT   words of the log count up to here, 0 to 4000000000 seconds")
+    eprintln!(rt; "  IN, OUT  transport stream files; a rehearsal writes none, and shows")?;
+    eprintln!(rt; "           the scrambled packets after --packets")
 }
 
 fn layer_name(layer: Layer) -> &'static str {
@@ -76,12 +63,7 @@ pub fn print_refusal(rt: &HostRuntime, fault: &EngineFault, done: u64) -> io::Re
     }
 }
 
-/// A refused line of the log.
-pub fn print_log_fault(rt: &HostRuntime, fault: &LogFault) -> io::Result<()> {
-    eprintln!(rt; "{fault}")
-}
-
-/// A file that cannot be read, and why.
+/// A stream that cannot be read, and why.
 pub fn print_unreadable(rt: &HostRuntime, path: &str, error: &io::Error) -> io::Result<()> {
     eprintln!(rt; "{path}: {error}")
 }
@@ -109,59 +91,23 @@ fn task_name(task: Task) -> &'static str {
     }
 }
 
-/// What became of the stream: on standard output, unless the stream itself is there.
-pub fn print_tally(
-    rt: &HostRuntime,
-    command: &Command,
-    loads: &Loads,
-    tally: &Tally,
-) -> io::Result<()> {
-    if command.writes_to_pipe() {
-        return write_tally(&mut rt.stderr(), command, loads, tally);
-    }
-    write_tally(&mut rt.stdout(), command, loads, tally)
-}
-
-fn write_tally<W: Write>(
-    out: &mut W,
-    command: &Command,
-    loads: &Loads,
-    tally: &Tally,
-) -> io::Result<()> {
+/// What became of the stream.
+pub fn print_tally(rt: &HostRuntime, command: &Command, tally: &Tally) -> io::Result<()> {
     let task = task_name(command.task);
     let profile = profile_name(command.profile);
-    write!(out, "{task}: profile {profile}, ")?;
-    write_loads(out, loads)?;
+    let parity = parity_name(command.keys.parity);
+    println!(rt; "{task}: profile {profile}, {parity} word")?;
     let read = tally.all.read;
     let changed = tally.all.changed;
     let passed = tally.all.passed();
-    writeln!(
-        out,
-        "packets: {read} read, {changed} changed, {passed} passed"
-    )?;
+    println!(rt; "packets: {read} read, {changed} changed, {passed} passed")?;
     for (pid, count) in &tally.pids {
         let read = count.read;
         let changed = count.changed;
         let passed = count.passed();
-        writeln!(
-            out,
-            "PID {pid}: {read} read, {changed} changed, {passed} passed"
-        )?;
+        println!(rt; "PID {pid}: {read} read, {changed} changed, {passed} passed")?;
     }
     Ok(())
-}
-
-fn write_loads<W: Write>(out: &mut W, loads: &Loads) -> io::Result<()> {
-    match loads {
-        Loads::Given(keys) => {
-            let parity = parity_name(keys.parity);
-            writeln!(out, "{parity} word")
-        }
-        Loads::Logged(log) => {
-            let count = log.lines.len();
-            writeln!(out, "lines loaded from the log: {count}")
-        }
-    }
 }
 
 /// A packet in hexadecimal, sixteen bytes to a line.

@@ -1,30 +1,20 @@
-// An engine with the grants of the services that are open at it.
-ghost use Rattle.std.specs.Prelude.{◌≡◌, true, reverse};
-ghost use Rattle.engine.specs.Model.{slots_of};
-ghost use Rattle.reel.specs.Held.{closable};
+// An engine whose service 0 is open and holds one word, with the grant that closes it again.
+ghost use Rattle.std.specs.Prelude.{◌≡◌, true};
+ghost use Rattle.engine.specs.Model.{is_open, slots_of};
 
-use engine::{Engine, EngineFault, Grant};
+use engine::{Engine, Grant};
+use shelf::PlainShelf;
 
 mod calls;
 
-pub struct Station<C, T, S> {
-    engine: Engine<C, T, S>,
+pub use calls::{finish, start};
+
+pub struct Station<C, T> {
+    pub engine: Engine<C, T, PlainShelf>,
     /// How long a key area has to be.
-    schedule_len: usize,
-    grants: Vec<Grant>,
-    /// Closing the grants from the last to the first is never refused.
-    ghost held: { closable engine.tag (slots_of engine.desk) (reverse grants.items) ≡ true },
-}
-
-/// Why a station does not do what it is asked.
-#[derive(Clone, Copy)]
-pub enum StationFault {
-    Engine(EngineFault),
-    NoMemory,
-}
-
-impl From<EngineFault> for StationFault {
-    fn from(fault: EngineFault) -> StationFault {
-        StationFault::Engine(fault)
-    }
+    pub schedule_len: usize,
+    grant: Grant,
+    ghost tagged: { grant.tag ≡ engine.tag },
+    ghost service: { grant.service ≡ 0 },
+    ghost opened: { is_open (slots_of engine.desk 0) ≡ true },
 }

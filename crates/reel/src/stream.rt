@@ -1,20 +1,17 @@
-// A stream, in batches of 64 packets, so that memory does not grow with it.
+// A stream file, in batches of 64 packets, so that memory does not grow with it.
 ghost use Rattle.std.specs.Prelude.{◌≤◌, length, IfOk};
 
 use crate::command::{Command, Task};
-use crate::ends::{Destination, Origin};
-use crate::keys::{Loads, Unloaded, load_all, refused_log};
 use crate::report;
-use crate::station::{Station, StationFault};
+use crate::station::{Station, finish, start};
 use crate::tally::Tally;
 use anyhow::anyhow;
-use cipher::{Cipher, TailRule};
+use cipher::{Cipher, Profile, TailRule};
 use engine::EngineFault;
 use law::every_run_is_lawful;
-use shelf::Shelf;
 use std::fs::File;
 use std::io;
-use std::io::Read;
+use std::io::{Read, Write};
 use std::rt::Files;
 
 /// 64 packets.
@@ -23,104 +20,71 @@ const BATCH: usize = 12032;
 // After so many packets a line on standard error says how far the run is.
 const PROGRESS: u64 = 1 << 20;
 
-/// Does what the command asks. A rehearsal takes both stations, any other task the near one.
-pub fn carry_out<C: Cipher + Drop, T: TailRule + Drop, S: Shelf + Drop>(
-    rt: &HostRuntime,
-    mut near: Station<C, T, S>,
-    mut far: Station<C, T, S>,
-    command: &Command,
-    loads: &Loads,
-) -> anyhow::Result<()> {
-    let result = with_words(rt, &mut near, &mut far, command, loads);
-    near.finish();
-    far.finish();
-    result
+/// Where a changed stream goes.
+#[derive(Drop)]
+enum Destination {
+    Nowhere,
+    Into(File),
 }
 
-fn with_words<C: Cipher, T: TailRule, S: Shelf>(
+/// Scrambles or descrambles a stream into a file.
+pub fn convert<C: Cipher + Drop, T: TailRule + Drop>(
     rt: &HostRuntime,
-    near: &mut Station<C, T, S>,
-    far: &mut Station<C, T, S>,
+    profile: Profile<C, T>,
     command: &Command,
-    loads: &Loads,
 ) -> anyhow::Result<()> {
-    load(rt, near, command, loads)?;
-    match command.task {
-        Task::Rehearse => {
-            load(rt, far, command, loads)?;
-            rehearse(rt, near, far, command, loads)
-        }
-        Task::Scramble | Task::Descramble => convert(rt, near, command, loads),
-    }
-}
-
-// Opens the services, joins the PIDs and loads the words, or says what was refused.
-fn load<C: Cipher, T: TailRule, S: Shelf>(
-    rt: &HostRuntime,
-    station: &mut Station<C, T, S>,
-    command: &Command,
-    loads: &Loads,
-) -> anyhow::Result<()> {
-    match load_all(rt.alloc(), station, loads) {
-        Ok(()) => Ok(()),
-        Err(Unloaded::Given(StationFault::Engine(fault))) => Err(refused(rt, command, &fault, 0)),
-        Err(Unloaded::Given(StationFault::NoMemory)) => Err(anyhow!("there is no memory")),
-        Err(Unloaded::Logged(fault)) => Err(refused_log(rt, &fault)),
-    }
-}
-
-// Scrambles or descrambles a stream.
-fn convert<C: Cipher, T: TailRule, S: Shelf>(
-    rt: &HostRuntime,
-    station: &Station<C, T, S>,
-    command: &Command,
-    loads: &Loads,
-) -> anyhow::Result<()> {
-    let tally = if command.writes_to_pipe() {
-        convert_into(
-            rt,
-            station,
-            command,
-            &mut Destination::Standard(rt.stdout()),
-        )?
-    } else {
-        convert_safely(rt, station, command)?
+    let station = match start(profile, &command.keys) {
+        Ok(station) => station,
+        Err(fault) => return Err(refused(rt, &fault, 0)),
     };
-    report::print_tally(rt, command, loads, &tally)?;
+    let result = convert_safely(rt, &station, command);
+    finish(station);
+    let tally = result?;
+    report::print_tally(rt, command, &tally)?;
     Ok(())
 }
 
-// Scrambles a stream in memory at one engine, brings it back at another and compares every byte.
-// That it comes back is proved of every stream: the contract of `every_run_is_lawful` says so.
-fn rehearse<C: Cipher, T: TailRule, S: Shelf>(
+/// Scrambles a stream in memory at one engine, brings it back at another and compares every byte.
+/// That it comes back is proved of every stream: the contract of `every_run_is_lawful` says so.
+pub fn rehearse<C: Cipher + Drop, T: TailRule + Drop>(
     rt: &HostRuntime,
-    near: &Station<C, T, S>,
-    far: &Station<C, T, S>,
+    profile: Profile<C, T>,
+    other: Profile<C, T>,
     command: &Command,
-    loads: &Loads,
 ) -> anyhow::Result<()> {
-    every_run_is_lawful::<C, T, S, C, T, S>();
-    let tally = work_through(rt, near, far, command, &mut Destination::Nowhere)?;
-    report::print_tally(rt, command, loads, &tally)?;
+    every_run_is_lawful::<C, T, shelf::PlainShelf, C, T, shelf::PlainShelf>();
+    let near = match start(profile, &command.keys) {
+        Ok(station) => station,
+        Err(fault) => return Err(refused(rt, &fault, 0)),
+    };
+    let far = match start(other, &command.keys) {
+        Ok(station) => station,
+        Err(fault) => {
+            finish(near);
+            return Err(refused(rt, &fault, 0));
+        }
+    };
+    let result = work_through(rt, &near, &far, command, &mut Destination::Nowhere);
+    finish(near);
+    finish(far);
+    let tally = result?;
+    report::print_tally(rt, command, &tally)?;
     println!(rt; "every packet came back byte for byte")?;
     Ok(())
 }
 
 // A refusal is printed whole; what is left to say is short.
-fn refused(rt: &HostRuntime, command: &Command, fault: &EngineFault, done: u64) -> anyhow::Error {
+fn refused(rt: &HostRuntime, fault: &EngineFault, done: u64) -> anyhow::Error {
     match report::print_refusal(rt, fault, done) {
-        Ok(()) if command.writes_to_pipe() && done > 0 => {
-            "the stream was refused, and the packets before are written".into()
-        }
         Ok(()) => "the stream was refused, and nothing was written".into(),
         Err(error) => error.into(),
     }
 }
 
 // Opens the stream, or says why that cannot be.
-fn open_input(rt: &HostRuntime, path: &str) -> anyhow::Result<Origin> {
-    match Origin::open(rt, path) {
-        Ok(origin) => Ok(origin),
+fn open_input(rt: &HostRuntime, path: &str) -> anyhow::Result<File> {
+    match File::open(rt, path) {
+        Ok(file) => Ok(file),
         Err(error) => {
             report::print_unreadable(rt, path, &error)?;
             Err(anyhow!("the stream cannot be opened"))
@@ -129,8 +93,7 @@ fn open_input(rt: &HostRuntime, path: &str) -> anyhow::Result<Origin> {
 }
 
 // Reads until the buffer is full or the input ends, and answers how many bytes came.
-// A pipe gives a few bytes at a time.
-fn fill(input: &mut Origin, buffer: &mut [u8]) -> io::Result<usize>
+fn fill(input: &mut File, buffer: &mut [u8]) -> io::Result<usize>
     ensures { IfOk result (λ n. n ≤ length buffer.old) }
 {
     let mut filled = 0;
@@ -153,14 +116,14 @@ fn progress(rt: &HostRuntime, before: u64, after: u64) -> io::Result<()> {
 }
 
 // Writes the changed stream beside the output, and gives it its name once all of it is there.
-fn convert_safely<C: Cipher, T: TailRule, S: Shelf>(
+fn convert_safely<C: Cipher, T: TailRule>(
     rt: &HostRuntime,
-    station: &Station<C, T, S>,
+    station: &Station<C, T>,
     command: &Command,
 ) -> anyhow::Result<Tally> {
     let output = command.output.as_str();
     let part = format!(in rt.alloc(); "{output}.part")?;
-    match convert_to_file(rt, station, command, part.as_str()) {
+    match convert_into(rt, station, command, part.as_str()) {
         Ok(tally) => {
             rt.rename(part.as_str(), output)?;
             Ok(tally)
@@ -172,32 +135,25 @@ fn convert_safely<C: Cipher, T: TailRule, S: Shelf>(
     }
 }
 
-fn convert_to_file<C: Cipher, T: TailRule, S: Shelf>(
+fn convert_into<C: Cipher, T: TailRule>(
     rt: &HostRuntime,
-    station: &Station<C, T, S>,
+    station: &Station<C, T>,
     command: &Command,
     part: &str,
 ) -> anyhow::Result<Tally> {
     let mut destination = Destination::Into(File::create(rt, part)?);
-    convert_into(rt, station, command, &mut destination)
-}
-
-fn convert_into<C: Cipher, T: TailRule, S: Shelf>(
-    rt: &HostRuntime,
-    station: &Station<C, T, S>,
-    command: &Command,
-    destination: &mut Destination,
-) -> anyhow::Result<Tally> {
-    let tally = work_through(rt, station, station, command, destination)?;
-    destination.flush()?;
+    let tally = work_through(rt, station, station, command, &mut destination)?;
+    if let Destination::Into(file) = &mut destination {
+        file.flush()?;
+    }
     Ok(tally)
 }
 
 // Takes the stream batch by batch. One that holds no packet is refused: it is no recording.
-fn work_through<C: Cipher, T: TailRule, S: Shelf>(
+fn work_through<C: Cipher, T: TailRule>(
     rt: &HostRuntime,
-    near: &Station<C, T, S>,
-    far: &Station<C, T, S>,
+    near: &Station<C, T>,
+    far: &Station<C, T>,
     command: &Command,
     destination: &mut Destination,
 ) -> anyhow::Result<Tally> {
@@ -220,12 +176,12 @@ fn work_through<C: Cipher, T: TailRule, S: Shelf>(
     Ok(tally)
 }
 
-fn each_batch<C: Cipher, T: TailRule, S: Shelf>(
+fn each_batch<C: Cipher, T: TailRule>(
     rt: &HostRuntime,
-    near: &Station<C, T, S>,
-    far: &Station<C, T, S>,
+    near: &Station<C, T>,
+    far: &Station<C, T>,
     command: &Command,
-    input: &mut Origin,
+    input: &mut File,
     destination: &mut Destination,
     buffer: &mut [u8],
     tally: &mut Tally,
@@ -236,14 +192,21 @@ fn each_batch<C: Cipher, T: TailRule, S: Shelf>(
             break;
         }
         let done = tally.all.read;
-        match command.task {
-            Task::Rehearse => rehearse_batch(rt, near, far, command, &mut buffer[0..n], tally)?,
-            Task::Scramble | Task::Descramble => convert_batch(
+        match destination {
+            Destination::Nowhere => rehearse_batch(
+                rt,
+                near,
+                far,
+                command,
+                &mut buffer[0..n],
+                tally,
+            )?,
+            Destination::Into(file) => convert_batch(
                 rt,
                 near,
                 command,
                 &mut buffer[0..n],
-                destination,
+                file,
                 tally,
             )?,
         }
@@ -253,57 +216,56 @@ fn each_batch<C: Cipher, T: TailRule, S: Shelf>(
 }
 
 // Scrambles or descrambles a batch in place, with a key area of its own.
-fn change_batch<C: Cipher, T: TailRule, S: Shelf>(
+fn change_batch<C: Cipher, T: TailRule>(
     rt: &HostRuntime,
-    station: &Station<C, T, S>,
-    command: &Command,
+    station: &Station<C, T>,
     task: Task,
     batch: &mut [u8],
     done: u64,
 ) -> anyhow::Result<()> {
-    let mut area = vec![in rt.alloc(); 0; station.schedule_len()]?;
+    let mut area = vec![in rt.alloc(); 0; station.schedule_len]?;
     let answer = match task {
-        Task::Scramble | Task::Rehearse => station.engine().scramble(area.as_mut_slice(), batch),
-        Task::Descramble => station.engine().descramble(area.as_mut_slice(), batch),
+        Task::Scramble | Task::Rehearse => station.engine.scramble(area.as_mut_slice(), batch),
+        Task::Descramble => station.engine.descramble(area.as_mut_slice(), batch),
     };
     match answer {
         Ok(_) => Ok(()),
-        Err(fault) => Err(refused(rt, command, &fault, done)),
+        Err(fault) => Err(refused(rt, &fault, done)),
     }
 }
 
-fn convert_batch<C: Cipher, T: TailRule, S: Shelf>(
+fn convert_batch<C: Cipher, T: TailRule>(
     rt: &HostRuntime,
-    station: &Station<C, T, S>,
+    station: &Station<C, T>,
     command: &Command,
     batch: &mut [u8],
-    destination: &mut Destination,
+    file: &mut File,
     tally: &mut Tally,
 ) -> anyhow::Result<()> {
     let before = batch.to_vec(rt.alloc())?;
-    change_batch(rt, station, command, command.task, batch, tally.all.read)?;
-    destination.put(batch)?;
+    change_batch(rt, station, command.task, batch, tally.all.read)?;
+    file.write_all(batch)?;
     tally.add(before.as_slice(), batch)?;
     Ok(())
 }
 
 // Scrambles a batch in memory, brings it back at the other engine and compares every byte.
-fn rehearse_batch<C: Cipher, T: TailRule, S: Shelf>(
+fn rehearse_batch<C: Cipher, T: TailRule>(
     rt: &HostRuntime,
-    near: &Station<C, T, S>,
-    far: &Station<C, T, S>,
+    near: &Station<C, T>,
+    far: &Station<C, T>,
     command: &Command,
     batch: &mut [u8],
     tally: &mut Tally,
 ) -> anyhow::Result<()> {
     let clear = batch.to_vec(rt.alloc())?;
     let done = tally.all.read;
-    change_batch(rt, near, command, Task::Scramble, batch, done)?;
+    change_batch(rt, near, Task::Scramble, batch, done)?;
     tally.add(clear.as_slice(), batch)?;
     if command.shows_packets {
         show_changed(rt, clear.as_slice(), batch, done)?;
     }
-    change_batch(rt, far, command, Task::Descramble, batch, done)?;
+    change_batch(rt, far, Task::Descramble, batch, done)?;
     if !same_bytes(clear.as_slice(), batch) {
         return Err(anyhow!("a packet did not come back"));
     }

@@ -1,5 +1,5 @@
 -- A shelf as its callers see it, and what each call does to that.
-use Rattle.std.specs.Prelude.{◌≡◌, ℕ, ◌+◌, ◌≤◌, Bool, true, false, cond, ◌&&◌, List, ◌∷◌, is_ok, Some, None, Ok, Err, Option, Result, ◌==◌, nat_lt}
+use Rattle.std.specs.Prelude.{◌≡◌, ℕ, ◌+◌, ◌≤◌, Bool, true, false, cond, ◌&&◌, List, is_ok, Some, None, Ok, Err, Option, Result, ◌==◌, nat_lt}
 use Rattle.word.specs.declared.parity.Parity.{Parity}
 use Rattle.word.specs.declared.parity.Parity.TheVariants.{Even, Odd}
 use Rattle.word.specs.declared.word.Word.{Word}
@@ -13,12 +13,10 @@ pub record ShelfMeaning : Type 0 where
   pub held : ℕ → Parity → Option Word
   -- the first moment at which a service takes a word
   pub next : ℕ → ℕ
-  -- the next of a service once it took words at further moments, the first one first
-  pub next_after : ℕ → List ℕ → ℕ
 
--- the meaning of a shelf, from the four members that its type gives
-abbrev pub meaning : {S : Type 0} → (S → List ℕ → Word) → (S → ℕ → Parity → Option Word) → (S → ℕ → ℕ) → (S → ℕ → List ℕ → ℕ) → S → ShelfMeaning
-meaning reads held next next_after s = record { reads = reads s; held = held s; next = next s; next_after = next_after s }
+-- the meaning of a shelf, from the three members that its type gives
+abbrev pub meaning : {S : Type 0} → (S → List ℕ → Word) → (S → ℕ → Parity → Option Word) → (S → ℕ → ℕ) → S → ShelfMeaning
+meaning reads held next s = record { reads = reads s; held = held s; next = next s }
 
 abbrev pub same_parity : Parity → Parity → Bool
 same_parity Even Even = true
@@ -42,13 +40,10 @@ pub record Puts (before : ShelfMeaning) (n : ℕ) (p : Parity) (entry : List ℕ
   -- if taken, the next of that service moves, and not far; every other, and each if refused, stays
   pub bound : is_ok r ≡ true → after.next n ≤ moment + 300
   pub stays : (k : ℕ) → (is_ok r && k == n) ≡ false → after.next k ≡ before.next k
-  -- if taken, its moment is the first of that service's further ones
-  pub later : (k : ℕ) (moments : List ℕ) → after.next_after k moments ≡ cond (is_ok r && k == n) (before.next_after k (moment ∷ moments)) (before.next_after k moments)
   pub reads : after.reads ≡ before.reads
 
 -- a wipe of service n: it holds nothing under either parity, and all else stays
 pub record Wipes (before : ShelfMeaning) (n : ℕ) (after : ShelfMeaning) : Type 0 where
   pub held : (k : ℕ) (q : Parity) → after.held k q ≡ cond (k == n) None (before.held k q)
   pub next : after.next ≡ before.next
-  pub later : after.next_after ≡ before.next_after
   pub reads : after.reads ≡ before.reads

@@ -1,5 +1,5 @@
 -- How the words of a service are paced: 10 seconds apart, and ten in each span of 300 seconds.
-use Rattle.std.specs.Prelude.{ℕ, ◌+◌, ◌*◌, ◌/◌, max, cond, List, [], ◌∷◌, ◌==◌}
+use Rattle.std.specs.Prelude.{ℕ, ◌+◌, ◌*◌, ◌/◌, max, cond, ◌==◌}
 
 -- the pace of a service: its next moment, the span of its latest word, and how many words it took in that span
 pub record PaceRow : Type 0 where
@@ -26,8 +26,3 @@ paced row moment = record {
   span = moment / 300;
   taken = taken_by row moment;
 }
-
--- the pace after words at some moments, the first one first
-abbrev pub paced_through : PaceRow → List ℕ → PaceRow
-paced_through row [] = row
-paced_through row (m ∷ ms) = paced_through (paced row m) ms

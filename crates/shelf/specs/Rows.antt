@@ -19,4 +19,4 @@ side r Odd = r.odd
 
 -- a plain shelf reads an entry as itself, and takes a word at any moment
 abbrev pub plain_meaning : PlainShelf → ShelfMeaning
-plain_meaning s = record { reads = word_of; held = λ k q. side (slice_index_or s.rows k empty) q; next = λ k. 0; next_after = λ k moments. 0 }
+plain_meaning s = record { reads = word_of; held = λ k q. side (slice_index_or s.rows k empty) q; next = λ k. 0 }

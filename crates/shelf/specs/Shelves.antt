@@ -7,11 +7,11 @@ use Rattle.shelf.specs.declared.pacing.Pace.{Pace}
 use Rattle.shelf.specs.declared.shelf.Shelf.{Ghosts}
 use Rattle.shelf.specs.declared.unwrapping.Unwrapping.{Unwrapping}
 use Rattle.shelf.specs.Meaning.{ShelfMeaning, meaning}
-use Rattle.shelf.specs.Paces.{PaceRow, paced_through}
+use Rattle.shelf.specs.Paces.{PaceRow}
 
 -- the meaning of any shelf
 abbrev pub meaning_of : {S : Type 0} → Ghosts S → S → ShelfMeaning
-meaning_of m s = meaning m.reads m.held m.next m.next_after s
+meaning_of m s = meaning m.reads m.held m.next s
 
 -- the pace of a service that has taken no word yet; so has each past the table's end
 abbrev pub unpaced : Pace
@@ -31,7 +31,6 @@ pacing_meaning m s = record {
   reads = m.reads s.below;
   held = m.held s.below;
   next = λ k. max (pace_at s k).next (m.next s.below k);
-  next_after = λ k moments. max (paced_through (pace_at s k) moments).next (m.next_after s.below k moments);
 }
 
 -- an unwrapping shelf reads an entry as the shelf below reads what the entry unwraps to, and holds and takes next what that does
@@ -40,5 +39,4 @@ unwrapping_meaning m s = record {
   reads = λ entry. m.reads s.below (unwrapped s.identifier entry);
   held = m.held s.below;
   next = m.next s.below;
-  next_after = m.next_after s.below;
 }

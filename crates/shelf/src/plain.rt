@@ -42,10 +42,6 @@ impl Shelf for PlainShelf {
 
     ghost next = { λ s. (plain_meaning s).next };
 
-    ghost next_after = { λ s. (plain_meaning s).next_after };
-
-    ghost present = { Prim.search rules };
-
     ghost low = { Prim.search rules };
 
     fn put(

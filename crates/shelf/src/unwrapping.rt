@@ -31,10 +31,6 @@ impl<S: Shelf> Shelf for Unwrapping<S> {
 
     ghost next = { λ s. (unwrapping_meaning S.Shelf s).next };
 
-    ghost next_after = { λ s. (unwrapping_meaning S.Shelf s).next_after };
-
-    ghost present = { Prim.search rules };
-
     ghost low = { Prim.search rules };
 
     fn put(

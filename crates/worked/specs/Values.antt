@@ -7,7 +7,7 @@ use Rattle.packet.specs.Header.{adaptation_of, start_of, with_control}
 use Rattle.packet.specs.declared.fault.HeaderFault.{HeaderFault}
 use Rattle.packet.specs.declared.fault.PacketFault.{PacketFault}
 use Rattle.shelf.specs.Meaning.{ShelfMeaning, put_answer}
-use Rattle.shelf.specs.Paces.{PaceRow, paced_through}
+use Rattle.shelf.specs.Paces.{PaceRow}
 use Rattle.shelf.specs.PacingRule.{pace_by}
 use Rattle.shelf.specs.declared.faults.ShelfFault.{ShelfFault}
 use Rattle.shelf.specs.declared.faults.ShelfFault.TheVariants.{TooSoon}
@@ -30,7 +30,7 @@ refused_with (Err f) = (packet_refusal (record { packet = 0; cause = f })).numbe
 
 -- a plain shelf with the paces of service 0 after words at these moments, the latest first
 abbrev pub paced_plain : List ℕ → ShelfMeaning
-paced_plain moments = record { reads = word_of; held = λ k q. None; next = λ k. (pace_by moments).next; next_after = λ k further. (paced_through (pace_by moments) further).next }
+paced_plain moments = record { reads = word_of; held = λ k q. None; next = λ k. (pace_by moments).next }
 
 pub record WorkedValues : Type 0 where
   -- adaptation control 01: 184 bytes, 11 blocks and a tail of 8 for AES, 23 blocks and none for DES

@@ -1,99 +1,88 @@
-ghost use Rattle.std.specs.Prelude.{◌≡◌, ℕ, true};
-ghost use Rattle.engine.specs.Calls.{Joins, Loads, Picks};
-ghost use Rattle.engine.specs.Model.{slots_of, model_of};
-ghost use Rattle.reel.specs.Held.{accepted, without};
+ghost use Rattle.std.specs.Prelude.{◌≡◌, true};
+ghost use Rattle.engine.specs.Model.{is_open, slots_of};
 
-use crate::station::{Station, StationFault};
+use crate::command::Keys;
+use crate::station::Station;
 use cipher::{Cipher, Profile, TailRule};
 use engine::{Engine, EngineFault, Grant, Unclosed};
-use shelf::Shelf;
-use std::alloc::{AllocFailed as Refused, Global};
-use word::Parity;
+use shelf::PlainShelf;
 
 // The program's engines need no tags to be told apart.
 const TAG: u16 = 1;
 
-impl<C: Cipher, T: TailRule, S: Shelf> Station<C, T, S> {
-    /// An engine under a profile, over a shelf, with no service open.
-    pub fn new(heap: Global, profile: Profile<C, T>, shelf: S) -> Station<C, T, S> {
-        let schedule_len = profile.cipher.schedule_len();
-        let Profile { cipher, tail, iv } = profile;
-        Station {
-            engine: Engine::make(cipher, tail, iv, shelf, TAG),
+/// An engine under a profile, ready to scramble and descramble the chosen PIDs under the word.
+pub fn start<C: Cipher + Drop, T: TailRule + Drop>(
+    profile: Profile<C, T>,
+    keys: &Keys,
+) -> Result<Station<C, T>, EngineFault> {
+    let schedule_len = profile.cipher.schedule_len();
+    let Profile { cipher, tail, iv } = profile;
+    let mut engine = Engine::make(cipher, tail, iv, PlainShelf::new(), TAG);
+    let grant = engine.open(0)?;
+    match set_up(&mut engine, keys) {
+        Ok(()) => Ok(Station {
+            engine,
             schedule_len,
-            grants: Vec::new(heap),
+            grant,
+        }),
+        Err(fault) => {
+            close(engine, grant);
+            Err(fault)
         }
-    }
-
-    /// How long a key area has to be.
-    pub fn schedule_len(&self) -> usize {
-        self.schedule_len
-    }
-
-    pub fn engine(&self) -> &Engine<C, T, S> {
-        &self.engine
-    }
-
-    /// Opens a service, whose grant the station keeps.
-    pub fn open(&mut self, service: u8) -> Result<(), StationFault> {
-        let grant = self.engine.open(service)?;
-        match self.grants.push(grant) {
-            Ok(()) => Ok(()),
-            Err(refused) => {
-                let Refused { value } = refused;
-                close(&mut self.engine, value);
-                Err(StationFault::NoMemory)
-            }
-        }
-    }
-
-    // The three calls that give no grant are the engine's own.
-
-    pub fn join(&mut self, service: u8, pid: u16) -> Result<(), EngineFault>
-        ensures { Joins (model_of C.Cipher T.TailRule S.Shelf self.old.engine) service pid result (model_of C.Cipher T.TailRule S.Shelf self.new.engine) }
-    {
-        self.engine.join(service, pid)
-    }
-
-    pub fn load(
-        &mut self,
-        service: u8,
-        parity: Parity,
-        entry: &[u8; 16],
-        moment: u32,
-    ) -> Result<(), EngineFault>
-        ensures { Loads (model_of C.Cipher T.TailRule S.Shelf self.old.engine) service parity entry.now moment result (model_of C.Cipher T.TailRule S.Shelf self.new.engine) }
-    {
-        self.engine.load(service, parity, entry, moment)
-    }
-
-    pub fn pick(&mut self, service: u8, parity: Parity) -> Result<(), EngineFault>
-        ensures { Picks (model_of C.Cipher T.TailRule S.Shelf self.old.engine) service parity result (model_of C.Cipher T.TailRule S.Shelf self.new.engine) }
-    {
-        self.engine.pick(service, parity)
     }
 }
 
-impl<C: Cipher + Drop, T: TailRule + Drop, S: Shelf + Drop> Station<C, T, S> {
-    /// Closes all services, whose words go with them.
-    pub fn finish(self) {
-        let Station {
-            mut engine,
-            schedule_len: _,
-            mut grants,
-        } = self;
-        while let Some(grant) = grants.pop() {
-            close(&mut engine, grant);
-        }
-        grants.destroy_empty();
-    }
+/// Closes the service, whose word goes with it.
+pub fn finish<C: Cipher + Drop, T: TailRule + Drop>(station: Station<C, T>) {
+    let Station {
+        engine,
+        schedule_len: _,
+        grant,
+    } = station;
+    close(engine, grant);
 }
 
-// A grant of this engine for an open service is never handed back.
-fn close<C: Cipher, T: TailRule, S: Shelf>(engine: &mut Engine<C, T, S>, grant: Grant)
-    requires { accepted engine.old.tag (slots_of engine.old.desk) grant ≡ true }
+// Loads and picks the word, and joins the PIDs. Whatever is refused, the service stays open.
+fn set_up<C: Cipher, T: TailRule>(
+    engine: &mut Engine<C, T, PlainShelf>,
+    keys: &Keys,
+) -> Result<(), EngineFault>
     ensures tag { engine.new.tag ≡ engine.old.tag }
-    ensures slots { (k : ℕ) → slots_of engine.new.desk k ≡ without grant.service (slots_of engine.old.desk) k }
+    ensures stays { is_open (slots_of engine.old.desk 0) ≡ true → is_open (slots_of engine.new.desk 0) ≡ true }
+{
+    load_word(engine, keys)?;
+    join_all(engine, keys.pids.as_slice())
+}
+
+fn load_word<C: Cipher, T: TailRule>(
+    engine: &mut Engine<C, T, PlainShelf>,
+    keys: &Keys,
+) -> Result<(), EngineFault>
+    ensures tag { engine.new.tag ≡ engine.old.tag }
+    ensures stays { is_open (slots_of engine.old.desk 0) ≡ true → is_open (slots_of engine.new.desk 0) ≡ true }
+{
+    engine.load(0, keys.parity, &keys.word.to_bytes(), 0)?;
+    engine.pick(0, keys.parity)
+}
+
+fn join_all<C: Cipher, T: TailRule>(
+    engine: &mut Engine<C, T, PlainShelf>,
+    pids: &[u16],
+) -> Result<(), EngineFault>
+    ensures tag { engine.new.tag ≡ engine.old.tag }
+    ensures stays { is_open (slots_of engine.old.desk 0) ≡ true → is_open (slots_of engine.new.desk 0) ≡ true }
+{
+    for pid in pids {
+        engine.join(0, *pid)?;
+    }
+    Ok(())
+}
+
+// A grant of this engine for the open service 0 is never handed back.
+fn close<C: Cipher + Drop, T: TailRule + Drop>(mut engine: Engine<C, T, PlainShelf>, grant: Grant)
+    requires tagged { grant.tag ≡ engine.tag }
+    requires service { grant.service ≡ 0 }
+    requires opened { is_open (slots_of engine.desk 0) ≡ true }
 {
     match engine.close(grant) {
         Ok(()) => {}

@@ -56,10 +56,6 @@ impl<S: Shelf> Shelf for Pacing<S> {
 
     ghost next = { λ s. (pacing_meaning S.Shelf s).next };
 
-    ghost next_after = { λ s. (pacing_meaning S.Shelf s).next_after };
-
-    ghost present = { first_of (Prim.search rules, Prim.grind (arith, Self.row.coded.inj)) };
-
     ghost low = { first_of (Prim.search rules, Prim.grind (arith, Self.row.coded.inj)) };
 
     fn put(

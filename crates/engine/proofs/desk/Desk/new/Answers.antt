@@ -9,7 +9,6 @@ returns g c =
     record {
       held = c.wipe-all.ensures.held;
       next = c.wipe-all.ensures.next;
-      later = c.wipe-all.ensures.later;
       reads = c.wipe-all.ensures.reads;
       slots = λ k. at_replicate (λ (s : Slot). s) 32 k Shut Shut refl;
       components = ap (map (λ c. (c.pid, c.service.number))) c.new.ensures.rows;

@@ -8,7 +8,6 @@ returns g c =
     record {
       held = search rules;
       next = search rules;
-      later = search rules;
       reads = search rules;
       slots = search rules;
       components = without_service_lem c.args.self.now.components _ c.args.service.number (ap components_of c.set-slot.ensures.components ∙ c.remove-service.ensures.rows);

@@ -1,0 +1,17 @@
+use Rattle.std.proofs.Common.{◌≡◌, ℕ, ap, ◌∙◌}
+use Rattle.engine.specs.Model.{is_open}
+use Rattle.engine.specs.declared.desk.Slot.{Slot}
+use Rattle.reel.proofs.station.calls.join_all.Goals as goal
+
+pub returns-in-err-join : goal.returns-in-err-join
+returns-in-err-join g c =
+    let does = c.join.ensures.does in
+    record {
+      tag = does.tag ∙ c.loop-pid.invariant.0;
+      stays = λ h. ap (λ (slots : ℕ → Slot). is_open (slots 0)) does.slots ∙ c.loop-pid.invariant.1 h;
+    }
+
+pub loop-pid-preserved : goal.loop-pid-preserved
+loop-pid-preserved g c =
+    let does = c.join.ensures.does in
+    (does.tag ∙ c.loop-pid.invariant.0, λ h. ap (λ (slots : ℕ → Slot). is_open (slots 0)) does.slots ∙ c.loop-pid.invariant.1 h)
