@@ -1,4 +1,6 @@
 // AES with a key of 128 bits (FIPS 197).
+#![tactic(auto)]
+
 mod inv_mix_table;
 mod inv_s_box;
 mod inverse;

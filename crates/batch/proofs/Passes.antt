@@ -1,11 +1,11 @@
 -- One packet more of each pass over a batch.
-use Rattle.std.proofs.Common.{◌≡◌, ℕ, zero, suc, ◌+◌, ◌-◌, ◌*◌, ◌/◌, ◌%◌, ◌<◌, ◌≤◌, Bool, true, false, cond, List, [], ◌∷◌, ◌++◌, map, length, get_or, take, drop, Ok, Err, sum_by, Option, Result, sym, refl, ap, ◌∙◌, subst, zero-add, arith, rules}
+use Rattle.std.proofs.Common.{◌≡◌, ℕ, zero, suc, ◌+◌, ◌-◌, ◌*◌, ◌/◌, ◌%◌, ◌<◌, ◌≤◌, Bool, cond, List, [], ◌∷◌, ◌++◌, map, length, get_or, take, drop, Ok, Err, Option, Result, sym, refl, ap, ◌∙◌, zero-add, arith}
 use borrow.Rule.Slice.PartMut.{put_mid}
 use Rattle.std.specs.List.{range_with_len, flat_map}
 use Rattle.std.proofs.lemmas.List.FromFn.{length-map-range_with_len, get_or-map-range_with_len, map-range_with_len_more, sum_by-map-range_with_len_more}
-use Rattle.std.proofs.lemmas.List.{at_drop_more, at_drop_all, flat_map_more, append-nil, take_all, drop_all, drop-drop, length-drop, length-take-le, take_at, drop_at}
+use Rattle.std.proofs.lemmas.List.{at_drop_more, at_drop_all, flat_map_more, take_all, drop-drop, length-drop, length-take-le, take_at, drop_at}
 use Rattle.std.proofs.lemmas.Slice.{take-put_mid, drop-put_mid}
-use Rattle.batch.specs.Packets.{packets, packet_at, replaced, or_else, first_fault, changes, followed, all_followed, changed_count, passed_count}
+use Rattle.batch.specs.Packets.{packets, packet_at, replaced, or_else, first_fault, changes, changed_count, passed_count}
 
 pub packets_length : (xs : List ℕ) → length (packets xs) ≡ length xs / 188
 packets_length xs = length-map-range_with_len (packet_at xs) 0 (length xs / 188)

@@ -1,9 +1,9 @@
 -- Where the payload of a packet that is to be changed starts.
-use Rattle.std.proofs.Common.{◌≡◌, ℕ, ◌+◌, ◌≤◌, Bool, true, false, cond, eqb, ltb, Some, None, Ok, Err, Option, Result, sym, subst, arith}
+use Rattle.std.proofs.Common.{◌≡◌, ℕ, ◌+◌, ◌≤◌, cond, eqb, ltb, Some, None, Ok, Err, Option, Result, sym, subst, arith}
 use Rattle.std.proofs.lemmas.Bool.{cond_both, ltb-false}
 use Rattle.packet.specs.Header.{start_of}
-use Rattle.packet.specs.declared.fault.HeaderFault.{HeaderFault}
-use Rattle.packet.specs.declared.fault.HeaderFault.TheVariants.{Sync, AdaptationLength}
+use Rattle.packet.specs.declared.faults.HeaderFault.{HeaderFault}
+use Rattle.packet.specs.declared.faults.HeaderFault.TheVariants.{Sync, AdaptationLength}
 use Rattle.packet.specs.declared.header.AdaptationControl.{AdaptationControl}
 use Rattle.packet.specs.declared.header.AdaptationControl.TheVariants as adaptation
 use Rattle.packet.specs.declared.header.Header.{Header}
@@ -12,7 +12,7 @@ use Rattle.packet.specs.declared.header.ScramblingControl.TheVariants as control
 use Rattle.word.specs.declared.parity.Parity.{Parity}
 use Rattle.word.specs.declared.parity.Parity.TheVariants as parity
 use Rattle.word.specs.declared.word.Word.{Word}
-use Rattle.batch.specs.Plan.{Keys, Plan, with_word, with_picked, scramble_plan, descramble_plan, directed, with_payload, with_service, plan_for}
+use Rattle.batch.specs.Plan.{Keys, Plan, with_word, with_picked, directed, with_payload, with_service, plan_for}
 use Rattle.batch.specs.declared.plan.Change.{Change}
 use Rattle.batch.specs.declared.plan.Direction.{Direction}
 use Rattle.batch.specs.declared.plan.Direction.TheVariants.{Scramble, Descramble}

@@ -1,5 +1,5 @@
 -- What a batch becomes, and what a batch call answers.
-use Rattle.std.specs.Prelude.{◌≡◌, ℕ, ◌%◌, Bool, cond, ◌&&◌, List, ◌++◌, length, take, drop, replicate, is_ok, Some, None, Ok, Err, Option, Result, ◌==◌, nat_le}
+use Rattle.std.specs.Prelude.{◌≡◌, ℕ, ◌%◌, Bool, cond, ◌&&◌, List, ◌++◌, length, take, drop, replicate, is_ok, Ok, Err, Result, ◌==◌, nat_le}
 use Rattle.cipher.specs.Bytes.{Bytes}
 use Rattle.cipher.specs.Profiles.{Meaning, scrambled, descrambled}
 use Rattle.packet.specs.Header.{with_control}
@@ -10,8 +10,8 @@ use Rattle.word.specs.declared.parity.Parity.TheVariants as parity
 use Rattle.word.specs.declared.word.Word.{Word}
 use Rattle.batch.specs.Packets.{packets, first_fault, all_followed, changed_count, passed_count}
 use Rattle.batch.specs.Plan.{Keys, plan_of}
-use Rattle.batch.specs.declared.fault.BatchFault.{BatchFault}
-use Rattle.batch.specs.declared.fault.BatchFault.TheVariants.{KeyArea, BatchLength, Packet, NoWord}
+use Rattle.batch.specs.declared.faults.BatchFault.{BatchFault}
+use Rattle.batch.specs.declared.faults.BatchFault.TheVariants.{KeyArea, BatchLength, Packet, NoWord}
 use Rattle.batch.specs.declared.plan.Change.{Change}
 use Rattle.batch.specs.declared.plan.Direction.{Direction}
 use Rattle.batch.specs.declared.plan.Direction.TheVariants.{Scramble, Descramble}

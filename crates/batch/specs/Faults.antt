@@ -3,8 +3,8 @@ use Rattle.std.specs.Prelude.{ℕ}
 use Rattle.fault.specs.declared.Layer.TheVariants as layer
 use Rattle.fault.specs.declared.Refusal.{Refusal}
 use Rattle.packet.specs.Faults.{packet_refusal}
-use Rattle.batch.specs.declared.fault.BatchFault.{BatchFault}
-use Rattle.batch.specs.declared.fault.BatchFault.TheVariants.{KeyArea, BatchLength, Packet, NoWord}
+use Rattle.batch.specs.declared.faults.BatchFault.{BatchFault}
+use Rattle.batch.specs.declared.faults.BatchFault.TheVariants.{KeyArea, BatchLength, Packet, NoWord}
 
 -- a refusal of the engine's own layer
 abbrev pub engine_refusal : ℕ → ℕ → ℕ → Refusal

@@ -1,8 +1,8 @@
 -- What is to become of a packet, in the order of the tests.
-use Rattle.std.specs.Prelude.{ℕ, Bool, cond, List, Some, None, Ok, Err, Option, Result, ◌==◌}
+use Rattle.std.specs.Prelude.{ℕ, cond, List, Some, None, Ok, Err, Option, Result, ◌==◌}
 use Rattle.packet.specs.Header.{header_of, payload_start}
-use Rattle.packet.specs.declared.fault.HeaderFault.{HeaderFault}
-use Rattle.packet.specs.declared.fault.HeaderFault.TheVariants.{Sync, Scrambled, ReservedControl}
+use Rattle.packet.specs.declared.faults.HeaderFault.{HeaderFault}
+use Rattle.packet.specs.declared.faults.HeaderFault.TheVariants.{Sync, Scrambled, ReservedControl}
 use Rattle.packet.specs.declared.header.Header.{Header}
 use Rattle.packet.specs.declared.header.ScramblingControl.{ScramblingControl}
 use Rattle.packet.specs.declared.header.ScramblingControl.TheVariants as control

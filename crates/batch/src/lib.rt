@@ -1,11 +1,13 @@
 // Scrambling and descrambling batches of packets: all are tested before any is changed.
-mod fault;
+#![tactic(auto)]
+
+mod faults;
 mod guard;
 mod keyring;
 mod pass;
 mod plan;
 
-pub use fault::BatchFault;
+pub use faults::BatchFault;
 pub use keyring::Keyring;
 pub use pass::{descramble, scramble};
 pub use plan::{Change, Direction, Objection};

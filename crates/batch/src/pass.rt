@@ -9,7 +9,7 @@ ghost use Rattle.batch.specs.Prepared.{Prepared};
 ghost use Rattle.word.specs.declared.word.Word.{Word};
 ghost use Rattle.batch.specs.declared.plan.Direction.TheVariants.{Scramble, Descramble};
 
-use crate::fault::BatchFault;
+use crate::faults::BatchFault;
 use crate::guard::KeyArea;
 use crate::keyring::Keyring;
 use crate::plan::{Change, Direction, Objection, plan};

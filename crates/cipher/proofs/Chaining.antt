@@ -1,6 +1,6 @@
 -- One turn of a loop over a payload's blocks, and its end, for any walk over blocks: `F n chain p` is what becomes of
 -- p, whose first n blocks are still to do.
-use Rattle.std.proofs.Common.{◌≡◌, ℕ, zero, suc, ◌+◌, ◌-◌, ◌/◌, ◌<◌, ◌≤◌, List, [], ◌∷◌, ◌++◌, length, take, drop, sym, refl, ap, ◌∙◌, append_assoc, add-one, arith, rules}
+use Rattle.std.proofs.Common.{◌≡◌, ℕ, suc, ◌+◌, ◌-◌, ◌/◌, ◌<◌, ◌≤◌, List, [], ◌++◌, length, take, drop, ap, ◌∙◌, append_assoc, add-one, arith, rules}
 use native.Mathlib.Nat.{div-eq-sub-div, div-eq_of_lt}
 use borrow.Rule.Slice.PartMut.{put_mid}
 use Rattle.std.proofs.lemmas.List.{drop-drop, drop_all, take_rest, append-nil, length-drop, places}

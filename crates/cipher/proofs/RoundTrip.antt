@@ -6,7 +6,7 @@ use Rattle.std.proofs.ByRecursion.{All-take, All-drop}
 use Rattle.cipher.specs.Bytes.{Byte, Bytes, Block, xors}
 use Rattle.cipher.specs.Chain.{chained, unchained}
 use Rattle.cipher.specs.Laws.{Sizes, CipherLaws, TailLaws}
-use Rattle.cipher.specs.Profiles.{Meaning, scrambled, descrambled}
+use Rattle.cipher.specs.Profiles.{Meaning}
 use Rattle.cipher.specs.Restores.{Restored}
 use Rattle.cipher.specs.Xors.{length_xors, xors_back, block_xors}
 use Rattle.word.specs.declared.word.Word.{Word}

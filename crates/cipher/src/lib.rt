@@ -1,4 +1,6 @@
 // Block ciphers, tail rules, and cipher block chaining over the payload of a packet.
+#![tactic(auto)]
+
 mod bytes;
 mod cipher;
 mod profile;

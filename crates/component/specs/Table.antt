@@ -1,5 +1,5 @@
 -- What a table holds and what its calls answer.
-use Rattle.std.specs.Prelude.{ℕ, Bool, cond, not, ◌||◌, List, length, take, is_some, Some, None, Ok, Err, filter, Option, Result, ◌==◌, nat_lt}
+use Rattle.std.specs.Prelude.{ℕ, cond, not, ◌||◌, List, length, take, is_some, Some, None, Ok, Err, filter, Option, Result, ◌==◌, nat_lt}
 use Rattle.component.specs.Rows.{joined_in}
 use Rattle.component.specs.declared.component.Component.{Component}
 use Rattle.component.specs.declared.components.Components.{Components}

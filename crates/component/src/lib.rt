@@ -1,4 +1,6 @@
 // The components of an engine: at most 64 PIDs, each with the service that it is joined to.
+#![tactic(auto)]
+
 mod component;
 mod components;
 mod faults;

@@ -1,5 +1,5 @@
 -- Deciphering undoes enciphering under any schedule: a round under the same key undoes itself between exchanges of the halves.
-use Rattle.std.proofs.Common.{◌≡◌, ℕ, zero, suc, ◌+◌, ◌*◌, ◌/◌, ◌%◌, ◌^◌, ◌<◌, List, sym, refl, ap, ◌∙◌, ap₂, mod-lt, lit<, shr_lt}
+use Rattle.std.proofs.Common.{◌≡◌, ℕ, zero, suc, ◌^◌, ◌<◌, List, refl, ap, ◌∙◌, ap₂, mod-lt, lit<, shr_lt}
 use lib.Arith.{digits_lt}
 use lib.Bits.{bit_xor, xor_assoc, xor_self, xor_zero_r, xor_lt}
 use lib.Pow.{split, high, low}

@@ -1,11 +1,11 @@
 -- The laws of the tables, each by one computed test.
-use Rattle.std.proofs.Common.{◌≡◌, ℕ, ◌+◌, ◌*◌, ◌/◌, ◌%◌, ◌^◌, ◌<◌, ◌≤◌, Bool, cond, T, eqb, ltb, leb, List, [], length, get_or, sym, refl, ap, ◌∙◌, arith, eqb→eq, ltb→lt, leb→le}
+use Rattle.std.proofs.Common.{◌≡◌, ℕ, ◌+◌, ◌*◌, ◌%◌, ◌<◌, ◌≤◌, Bool, cond, T, eqb, ltb, leb, List, [], length, get_or, refl, eqb→eq, ltb→lt, leb→le}
 use Rattle.std.specs.List.{AllByRecursion as All}
 use Rattle.std.proofs.ByRecursion.{All-weaker}
 use Rattle.des.specs.Laws.{times, Permutes, expanded, Lawful}
 use Rattle.des.specs.Tables.{IP_table, IP⁻¹_table, E_table, P_table, PC_1_table, PC_2_table, left_shifts, S_tables}
 use Rattle.des.proofs.Inverts.{IP⁻¹_IP, IP_IP⁻¹}
-use Rattle.des.proofs.Tested.{both, both_left, both_right, every, tested_below, below, every_of, tested_of, within}
+use Rattle.des.proofs.Tested.{both, both_left, both_right, every, tested_below, below, tested_of}
 
 permutes : (n : ℕ) (table : List ℕ) → length table ≡ n → T (every (λ t. eqb (times (t + 1) table) 1) 0 n) → Permutes n table
 permutes n table e t = (e, below (λ t. times (t + 1) table) (λ t. 1) n t)

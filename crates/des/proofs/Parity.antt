@@ -1,5 +1,5 @@
 -- The lowest bit of a byte of the key is read by no table.
-use Rattle.std.proofs.Common.{◌≡◌, ℕ, ◌+◌, ◌-◌, ◌*◌, ◌/◌, ◌%◌, ◌^◌, ◌<◌, ◌≤◌, T, ltb, List, map, length, get_or, sym, ap, ◌∙◌, arith, ltb→lt, shr-shr}
+use Rattle.std.proofs.Common.{◌≡◌, ℕ, ◌+◌, ◌-◌, ◌*◌, ◌/◌, ◌%◌, ◌^◌, ◌<◌, T, ltb, List, map, length, get_or, sym, ap, ◌∙◌, arith, ltb→lt, shr-shr}
 use lib.Pow.{field, mod-mod-pow}
 use Rattle.std.specs.List.{range_with_len, flat_map, AllByRecursion as All}
 use Rattle.std.proofs.ByRecursion.{All-weaker}

@@ -1,5 +1,5 @@
 -- A shift of 28 bits round to the left, as the code makes it, and its bound.
-use Rattle.std.proofs.Common.{◌≡◌, ℕ, zero, suc, ◌+◌, ◌-◌, ◌*◌, ◌/◌, ◌%◌, ◌^◌, ◌<◌, ◌≤◌, leb, get_or, sym, ap, ◌∙◌, ap₂, mod-lt, mul_assoc, add-mul, arith, leb→le, pow_pos, pow-add, shr_lt}
+use Rattle.std.proofs.Common.{◌≡◌, ℕ, zero, suc, ◌+◌, ◌-◌, ◌*◌, ◌/◌, ◌%◌, ◌^◌, ◌<◌, ◌≤◌, leb, get_or, sym, ap, ◌∙◌, mod-lt, mul_assoc, add-mul, arith, leb→le, pow_pos, pow-add, shr_lt}
 use lib.Arith.{digits_lt}
 use lib.Bits.{bit_and, bit_or, and_mask, or_shifted}
 use lib.Pow.{split, low, mod-mod-pow}

@@ -1,4 +1,6 @@
 // The Data Encryption Standard (FIPS 46-3), on bytes.
+#![tactic(auto)]
+
 mod bits;
 mod cipher;
 mod feistel;

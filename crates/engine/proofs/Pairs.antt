@@ -13,7 +13,7 @@ use Rattle.word.specs.declared.service.Service.{Service}
 use Rattle.engine.specs.Calls.{Answer}
 use Rattle.engine.specs.Faults.{join_fault}
 use Rattle.engine.specs.Model.{pairs_of}
-use Rattle.engine.specs.declared.fault.EngineFault.TheVariants.{PidRange, AlreadyJoined, TableFull}
+use Rattle.engine.specs.declared.faults.EngineFault.TheVariants.{PidRange, AlreadyJoined, TableFull}
 
 abbrev pair : Component → ℕ × ℕ
 pair c = (c.pid, c.service.number)

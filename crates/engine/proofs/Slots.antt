@@ -5,8 +5,8 @@ use Rattle.engine.specs.Calls.{Answer, closed, unless}
 use Rattle.engine.specs.Model.{is_open, slots_of}
 use Rattle.engine.specs.declared.desk.Desk.{Desk}
 use Rattle.engine.specs.declared.desk.Slot.TheVariants.{Shut}
-use Rattle.engine.specs.declared.fault.EngineFault.{EngineFault}
-use Rattle.engine.specs.declared.fault.EngineFault.TheVariants.{NoService, NotOpen}
+use Rattle.engine.specs.declared.faults.EngineFault.{EngineFault}
+use Rattle.engine.specs.declared.faults.EngineFault.TheVariants.{NoService, NotOpen}
 
 and_false : (a : Bool) → (a && false) ≡ false
 and_false true = refl

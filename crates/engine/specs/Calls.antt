@@ -1,7 +1,7 @@
 -- What each call answers, in the order of its tests, and what it does to the engine: one equation for both outcomes.
 use Rattle.std.specs.Prelude.{◌≡◌, ℕ, ◌+◌, ◌≤◌, true, false, cond, not, ◌&&◌, ◌||◌, List, [], ◌∷◌, ◌++◌, length, is_some, is_ok, Some, None, Ok, Err, filter, Option, Result, ◌==◌, nat_lt}
 use Rattle.batch.specs.Batches.{batch_answer, Batched}
-use Rattle.batch.specs.declared.fault.BatchFault.{BatchFault}
+use Rattle.batch.specs.declared.faults.BatchFault.{BatchFault}
 use Rattle.batch.specs.declared.plan.Direction.{Direction}
 use Rattle.cipher.specs.Bytes.{Bytes}
 use Rattle.component.specs.Table.{without_service}
@@ -11,8 +11,8 @@ use Rattle.word.specs.declared.parity.Parity.{Parity}
 use Rattle.engine.specs.Model.{Model, Given, is_open, keys_of}
 use Rattle.engine.specs.declared.desk.Slot.{Slot}
 use Rattle.engine.specs.declared.desk.Slot.TheVariants.{Shut, Live}
-use Rattle.engine.specs.declared.fault.EngineFault.{EngineFault}
-use Rattle.engine.specs.declared.fault.EngineFault.TheVariants.{Shelf, Batch, NoService, AlreadyOpen, BadGrant, NotOpen, PidRange, AlreadyJoined, TableFull, NotJoined, BadMoment, NoWord}
+use Rattle.engine.specs.declared.faults.EngineFault.{EngineFault}
+use Rattle.engine.specs.declared.faults.EngineFault.TheVariants.{Shelf, Batch, NoService, AlreadyOpen, BadGrant, NotOpen, PidRange, AlreadyJoined, TableFull, NotJoined, BadMoment, NoWord}
 use Rattle.engine.specs.declared.grant.Grant.{Grant}
 use Rattle.engine.specs.declared.grant.Unclosed.{Unclosed}
 

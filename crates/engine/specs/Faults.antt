@@ -1,12 +1,11 @@
 -- The number, the layer and the places of each fault of the engine.
-use Rattle.std.specs.Prelude.{ℕ}
 use Rattle.batch.specs.Faults.{engine_refusal, batch_refusal}
 use Rattle.component.specs.declared.faults.ComponentFault.{ComponentFault}
 use Rattle.component.specs.declared.faults.ComponentFault.TheVariants as component
 use Rattle.fault.specs.declared.Refusal.{Refusal}
 use Rattle.shelf.specs.Refusals.{refusal_of as shelf_refusal}
-use Rattle.engine.specs.declared.fault.EngineFault.{EngineFault}
-use Rattle.engine.specs.declared.fault.EngineFault.TheVariants.{Shelf, Batch, NoService, AlreadyOpen, BadGrant, NotOpen, PidRange, AlreadyJoined, TableFull, NotJoined, BadMoment, NoWord}
+use Rattle.engine.specs.declared.faults.EngineFault.{EngineFault}
+use Rattle.engine.specs.declared.faults.EngineFault.TheVariants.{Shelf, Batch, NoService, AlreadyOpen, BadGrant, NotOpen, PidRange, AlreadyJoined, TableFull, NotJoined, BadMoment, NoWord}
 
 -- the faults of the shelf and of a batch say what they said there; the engine's own have no places
 abbrev pub refusal_of : EngineFault → Refusal

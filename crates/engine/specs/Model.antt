@@ -1,11 +1,10 @@
 -- An engine as its callers see it.
-use Rattle.std.specs.Prelude.{ℕ, Bool, true, false, List, map, Some, None, Option, slice_index_or}
+use Rattle.std.specs.Prelude.{ℕ, Bool, true, false, List, map, None, Option, slice_index_or}
 use Rattle.batch.specs.Plan.{Keys}
 use Rattle.cipher.specs.Profiles.{Meaning, meaning}
 use Rattle.cipher.specs.declared.cipher.Cipher.{Ghosts as CipherGhosts}
 use Rattle.cipher.specs.declared.tail.TailRule.{Ghosts as TailGhosts}
 use Rattle.component.specs.Table.{components_of, joined}
-use Rattle.component.specs.declared.component.Component.{Component}
 use Rattle.component.specs.declared.components.Components.{Components}
 use Rattle.shelf.specs.Meaning.{ShelfMeaning}
 use Rattle.shelf.specs.Shelves.{meaning_of}

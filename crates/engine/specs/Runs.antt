@@ -5,7 +5,7 @@ use Rattle.shelf.specs.Examined.{examined}
 use Rattle.word.specs.declared.parity.Parity.{Parity}
 use Rattle.engine.specs.Calls.{Answer, Counts, Makes, Opens, Closes, Joins, Leaves, Loads, Picks, Batches}
 use Rattle.engine.specs.Model.{Model, Given}
-use Rattle.engine.specs.declared.fault.EngineFault.{EngineFault}
+use Rattle.engine.specs.declared.faults.EngineFault.{EngineFault}
 use Rattle.engine.specs.declared.grant.Grant.{Grant}
 use Rattle.engine.specs.declared.grant.Unclosed.{Unclosed}
 

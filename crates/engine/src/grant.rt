@@ -1,4 +1,4 @@
-use crate::fault::EngineFault;
+use crate::faults::EngineFault;
 
 /// The right to close a service at the engine of a tag.
 /// It has no Drop: whoever holds it gives it back by close.

@@ -1,8 +1,7 @@
 -- One step of reading a group: a digit goes on, no digit stops, the end answers the number so far.
-use Rattle.std.proofs.Common.{◌≡◌, ℕ, ◌+◌, ◌*◌, ◌^◌, ◌<◌, ◌≤◌, Bool, cond, List, length, get_or, drop, Some, None, Ok, Err, Option, Result, sym, ap, ◌∙◌, arith, pow_mono, pow-add, eq-eqb}
+use Rattle.std.proofs.Common.{◌≡◌, ℕ, ◌+◌, ◌*◌, ◌^◌, ◌<◌, ◌≤◌, Bool, cond, List, length, get_or, drop, Some, None, Ok, Err, Option, sym, ap, ◌∙◌, arith, pow_mono, pow-add, eq-eqb}
 use Rattle.std.proofs.lemmas.List.{at_drop_more, at_drop_all}
 use Rattle.std.proofs.lemmas.Bool.Decides.{nat_tests}
-use Rattle.entry.specs.declared.faults.EntryFault.{EntryFault}
 use Rattle.entry.specs.declared.faults.EntryFault.TheVariants.{Length, Digit}
 use Rattle.entry.specs.Groups.{digit_of, with_digit, digits_of, group_of}
 

@@ -1,4 +1,6 @@
 // A word or an identifier typed by hand: four groups of eight hexadecimal digits, leftmost first.
+#![tactic(auto)]
+
 mod digits;
 mod faults;
 mod groups;

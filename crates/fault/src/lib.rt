@@ -1,4 +1,5 @@
 // What a refusal says, whichever layer it comes from: its number, its layer and two places.
+#![tactic(auto)]
 
 /// The layer that refuses.
 #[derive(Clone, Copy, Debug, PartialEq, Eq)]

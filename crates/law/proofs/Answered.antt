@@ -4,8 +4,8 @@ use Rattle.std.proofs.lemmas.Bool.{false≢true, true≢false, ltb-false, le-ltb
 use Rattle.engine.specs.Calls.{Answer, closed, unless, open_answer, load_answer}
 use Rattle.engine.specs.Model.{Model, is_open}
 use Rattle.engine.specs.declared.desk.Slot.{Slot}
-use Rattle.engine.specs.declared.fault.EngineFault.{EngineFault}
-use Rattle.engine.specs.declared.fault.EngineFault.TheVariants.{Shelf, NoService, AlreadyOpen, NotOpen, BadMoment}
+use Rattle.engine.specs.declared.faults.EngineFault.{EngineFault}
+use Rattle.engine.specs.declared.faults.EngineFault.TheVariants.{Shelf, NoService, AlreadyOpen, NotOpen, BadMoment}
 use Rattle.engine.specs.declared.grant.Grant.{Grant}
 use Rattle.shelf.proofs.Fresh.{fresh}
 use Rattle.shelf.specs.Examined.{any_below, holds_at, loaded_at, examined, Fresh}

@@ -4,7 +4,7 @@ use Rattle.std.proofs.lemmas.Bool.{cases_Bool}
 use Rattle.batch.specs.Batches.{Batched}
 use Rattle.batch.specs.Packets.{packet_at, changes}
 use Rattle.batch.specs.Plan.{Keys, plan_of}
-use Rattle.batch.specs.declared.fault.BatchFault.{BatchFault}
+use Rattle.batch.specs.declared.faults.BatchFault.{BatchFault}
 use Rattle.batch.specs.declared.plan.Direction.TheVariants.{Scramble, Descramble}
 use Rattle.cipher.proofs.RoundTrip.{Lawful}
 use Rattle.cipher.specs.Bytes.{Block}

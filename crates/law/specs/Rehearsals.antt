@@ -4,7 +4,7 @@ use Rattle.batch.specs.Packets.{packet_at}
 use Rattle.engine.specs.Calls.{Counts}
 use Rattle.engine.specs.Model.{Model, Given}
 use Rattle.engine.specs.Runs.{Call, scrambles, descrambles, Step, Run}
-use Rattle.engine.specs.declared.fault.EngineFault.{EngineFault}
+use Rattle.engine.specs.declared.faults.EngineFault.{EngineFault}
 use Rattle.packet.specs.Header.{pid_of}
 use Rattle.restoring.specs.Restoring.{Alike, Scrambled}
 use Rattle.law.specs.Law.{joined_by, keys_by, word_by}

@@ -1,4 +1,6 @@
 // The law of every run of the engine's calls, and a call that uses it.
+#![tactic(auto)]
+
 mod rehearsal;
 mod theorem;
 

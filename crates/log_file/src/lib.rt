@@ -1,4 +1,6 @@
 // The studio's log: a line for each word that it loaded, in the order of loading.
+#![tactic(auto)]
+
 mod columns;
 mod faults;
 mod line;

@@ -2,9 +2,9 @@
 use Rattle.std.specs.Prelude.{ℕ}
 use Rattle.fault.specs.declared.Layer.TheVariants as layer
 use Rattle.fault.specs.declared.Refusal.{Refusal}
-use Rattle.packet.specs.declared.fault.HeaderFault.{HeaderFault}
-use Rattle.packet.specs.declared.fault.HeaderFault.TheVariants.{Sync, AdaptationControl, AdaptationLength, Scrambled, ReservedControl}
-use Rattle.packet.specs.declared.fault.PacketFault.{PacketFault}
+use Rattle.packet.specs.declared.faults.HeaderFault.{HeaderFault}
+use Rattle.packet.specs.declared.faults.HeaderFault.TheVariants.{Sync, AdaptationControl, AdaptationLength, Scrambled, ReservedControl}
+use Rattle.packet.specs.declared.faults.PacketFault.{PacketFault}
 
 abbrev pub header_number : HeaderFault → ℕ
 header_number Sync = 14

@@ -1,7 +1,7 @@
 -- The header of a transport packet (ISO/IEC 13818-1). A packet is a list of 188 bytes.
 use Rattle.std.specs.Prelude.{ℕ, ◌+◌, ◌*◌, ◌/◌, ◌%◌, cond, List, Some, None, Ok, Err, Option, Result, ◌==◌, nat_le, nat_lt, slice_index, slice_set}
-use Rattle.packet.specs.declared.fault.HeaderFault.{HeaderFault}
-use Rattle.packet.specs.declared.fault.HeaderFault.TheVariants as fault
+use Rattle.packet.specs.declared.faults.HeaderFault.{HeaderFault}
+use Rattle.packet.specs.declared.faults.HeaderFault.TheVariants as fault
 use Rattle.packet.specs.declared.header.AdaptationControl.{AdaptationControl}
 use Rattle.packet.specs.declared.header.AdaptationControl.TheVariants as adaptation
 use Rattle.packet.specs.declared.header.Header.{Header}

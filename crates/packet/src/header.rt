@@ -1,7 +1,7 @@
 ghost use Rattle.std.specs.Prelude.{◌≡◌, ℕ};
 ghost use Rattle.packet.specs.Header.{header_of, control_bits, control_of, adaptation_of, payload_start, with_control};
 
-use crate::fault::HeaderFault;
+use crate::faults::HeaderFault;
 
 /// The two bits that say under which word a payload is scrambled.
 #[derive(Clone, Copy, Debug, PartialEq, Eq)]

@@ -1,6 +1,8 @@
 // The header of a transport packet of 188 bytes (ISO/IEC 13818-1): its fields, and where its payload starts.
-mod fault;
+#![tactic(auto)]
+
+mod faults;
 mod header;
 
-pub use fault::{HeaderFault, PacketFault};
+pub use faults::{HeaderFault, PacketFault};
 pub use header::{AdaptationControl, Header, ScramblingControl, set_control};

@@ -1,5 +1,5 @@
 -- The bytes of a word are bytes, and so is the key that DES reads of it.
-use Rattle.std.specs.Prelude.{◌≡◌, ℕ, ◌%◌, ◌<◌, List, map, refl}
+use Rattle.std.specs.Prelude.{ℕ, ◌%◌, ◌<◌, refl}
 use Rattle.std.proofs.Common.{arith}
 use Rattle.std.proofs.ByRecursion.{All-append}
 use Rattle.cipher.specs.Bytes.{Byte, Bytes, Block}

@@ -1,4 +1,6 @@
 // The block ciphers behind the cipher interface, and the profiles: cipher, tail rule and initial vector.
+#![tactic(auto)]
+
 mod ciphers;
 mod profiles;
 mod theorem;

@@ -1,4 +1,6 @@
 // Scrambles, descrambles or rehearses a transport stream file, and prints what happened.
+#![tactic(auto)]
+
 mod command;
 mod report;
 mod station;

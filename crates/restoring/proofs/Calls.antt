@@ -8,8 +8,8 @@ use Rattle.batch.proofs.Plans.{change_inside}
 use Rattle.batch.specs.Batches.{batch_after, batch_answer, changed, counted, fits, objection_at}
 use Rattle.batch.specs.Packets.{packet_at, packets, first_fault, follow, followed, changes, changed_count, passed_count}
 use Rattle.batch.specs.Plan.{Keys, Plan, plan_of}
-use Rattle.batch.specs.declared.fault.BatchFault.{BatchFault}
-use Rattle.batch.specs.declared.fault.BatchFault.TheVariants.{KeyArea, BatchLength}
+use Rattle.batch.specs.declared.faults.BatchFault.{BatchFault}
+use Rattle.batch.specs.declared.faults.BatchFault.TheVariants.{KeyArea, BatchLength}
 use Rattle.batch.specs.declared.plan.Change.{Change}
 use Rattle.batch.specs.declared.plan.Direction.{Direction}
 use Rattle.batch.specs.declared.plan.Direction.TheVariants.{Scramble, Descramble}

@@ -7,8 +7,8 @@ use Rattle.batch.specs.declared.plan.Change.{Change}
 use Rattle.batch.specs.declared.plan.Direction.TheVariants.{Scramble, Descramble}
 use Rattle.batch.specs.declared.plan.Objection.TheVariants.{BadHeader, NoWord}
 use Rattle.packet.specs.Header.{control_of, payload_start, start_of}
-use Rattle.packet.specs.declared.fault.HeaderFault.{HeaderFault}
-use Rattle.packet.specs.declared.fault.HeaderFault.TheVariants.{Sync, AdaptationLength}
+use Rattle.packet.specs.declared.faults.HeaderFault.{HeaderFault}
+use Rattle.packet.specs.declared.faults.HeaderFault.TheVariants.{Sync, AdaptationLength}
 use Rattle.packet.specs.declared.header.AdaptationControl.{AdaptationControl}
 use Rattle.packet.specs.declared.header.AdaptationControl.TheVariants as adaptation
 use Rattle.packet.specs.declared.header.Header.{Header}

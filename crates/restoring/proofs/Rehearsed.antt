@@ -7,8 +7,8 @@ use Rattle.batch.proofs.Passes.{joined_step, packets_length, packets_get_or}
 use Rattle.batch.specs.Batches.{Batched, batch_after, batch_answer, changed, counted, fits, objection_at}
 use Rattle.batch.specs.Packets.{packet_at, packets, or_else, first_fault, follow, followed, changed_count, passed_count}
 use Rattle.batch.specs.Plan.{Keys, Plan, plan_of}
-use Rattle.batch.specs.declared.fault.BatchFault.{BatchFault}
-use Rattle.batch.specs.declared.fault.BatchFault.TheVariants.{KeyArea, BatchLength}
+use Rattle.batch.specs.declared.faults.BatchFault.{BatchFault}
+use Rattle.batch.specs.declared.faults.BatchFault.TheVariants.{KeyArea, BatchLength}
 use Rattle.batch.specs.declared.plan.Change.{Change}
 use Rattle.batch.specs.declared.plan.Direction.TheVariants.{Scramble, Descramble}
 use Rattle.batch.specs.declared.plan.Objection.{Objection}

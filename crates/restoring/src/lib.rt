@@ -1,4 +1,6 @@
 // What scrambling and descrambling a batch do together.
+#![tactic(auto)]
+
 mod rehearsal;
 mod theorem;
 

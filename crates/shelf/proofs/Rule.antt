@@ -1,9 +1,9 @@
 -- The pace that is kept follows the rule of pacing: one word at a time.
-use Rattle.std.proofs.Common.{◌≡◌, ℕ, ◌+◌, ◌*◌, ◌/◌, ◌<◌, ◌≤◌, max, Bool, true, false, cond, eqb, List, [], ◌∷◌, sym, refl, ap, ◌∙◌, subst, ⊎_elim, arith}
+use Rattle.std.proofs.Common.{◌≡◌, ℕ, ◌+◌, ◌*◌, ◌/◌, ◌<◌, ◌≤◌, cond, eqb, List, [], ◌∷◌, sym, refl, ap, ◌∙◌, subst, ⊎_elim, arith}
 use Rattle.std.proofs.lemmas.Bool.{cases_eq}
 use Rattle.std.proofs.lemmas.Bool.Decides.{nat_tests}
-use Rattle.shelf.specs.Paces.{PaceRow, rested, paced, full_until, taken_by}
-use Rattle.shelf.specs.PacingRule.{in_span, next_by, Due, pace_by, FollowsRule, PacingRule}
+use Rattle.shelf.specs.Paces.{PaceRow, paced, full_until, taken_by}
+use Rattle.shelf.specs.PacingRule.{in_span, next_by, Due, pace_by, PacingRule}
 
 -- what a row knows of the moments behind it
 record Knows (ms : List ℕ) (row : PaceRow) : Type 0 where

@@ -1,5 +1,5 @@
 -- A table of rows as a shelf.
-use Rattle.std.specs.Prelude.{ℕ, List, None, Option, slice_index_or}
+use Rattle.std.specs.Prelude.{None, Option, slice_index_or}
 use Rattle.word.specs.declared.parity.Parity.{Parity}
 use Rattle.word.specs.declared.parity.Parity.TheVariants.{Even, Odd}
 use Rattle.word.specs.declared.word.Word.{Word}

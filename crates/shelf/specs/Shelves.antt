@@ -1,5 +1,5 @@
 -- What the shelves above another shelf mean.
-use Rattle.std.specs.Prelude.{ℕ, max, List, slice_index_or}
+use Rattle.std.specs.Prelude.{ℕ, max, slice_index_or}
 use Rattle.std.proofs.Common.{lit≤}
 use Rattle.word.specs.Identifiers.{unwrapped}
 use Rattle.shelf.specs.declared.pacing.Pacing.{Pacing}

@@ -1,4 +1,6 @@
 // Shelves: where the words of 32 services are kept, two of each service.
+#![tactic(auto)]
+
 mod examination;
 mod faults;
 mod pacing;

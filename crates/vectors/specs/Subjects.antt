@@ -2,7 +2,7 @@
 use Rattle.std.specs.Prelude.{ℕ, cond, ◌&&◌, List, length, is_ok, Ok, Err, Result, ◌==◌}
 use Rattle.batch.specs.Batches.{batch_answer, batch_after}
 use Rattle.batch.specs.Plan.{Keys}
-use Rattle.batch.specs.declared.fault.BatchFault.{BatchFault}
+use Rattle.batch.specs.declared.faults.BatchFault.{BatchFault}
 use Rattle.batch.specs.declared.plan.Direction.{Direction}
 use Rattle.batch.specs.declared.plan.Direction.TheVariants.{Scramble, Descramble}
 use Rattle.cipher.specs.Profiles.{Meaning}

@@ -1,5 +1,7 @@
 // Holds the element to bytes that other software made: vectors that standards publish, and packets of
 // every payload length. Prints a line for each group of them, and a line for each mismatch.
+#![tactic(auto)]
+
 mod group;
 mod hex;
 mod keyring;

@@ -1,4 +1,6 @@
 // The values that every layer speaks of: words, identifiers, parities, services and moments.
+#![tactic(auto)]
+
 mod identifier;
 mod moment;
 mod parity;

@@ -4,12 +4,9 @@ use Rattle.batch.specs.Batches.{control_after}
 use Rattle.batch.specs.declared.plan.Direction.TheVariants.{Scramble}
 use Rattle.packet.specs.Faults.{packet_refusal}
 use Rattle.packet.specs.Header.{adaptation_of, start_of, with_control}
-use Rattle.packet.specs.declared.fault.HeaderFault.{HeaderFault}
-use Rattle.packet.specs.declared.fault.PacketFault.{PacketFault}
+use Rattle.packet.specs.declared.faults.HeaderFault.{HeaderFault}
 use Rattle.shelf.specs.Meaning.{ShelfMeaning, put_answer}
-use Rattle.shelf.specs.Paces.{PaceRow}
 use Rattle.shelf.specs.PacingRule.{pace_by}
-use Rattle.shelf.specs.declared.faults.ShelfFault.{ShelfFault}
 use Rattle.shelf.specs.declared.faults.ShelfFault.TheVariants.{TooSoon}
 use Rattle.word.specs.Words.{word_of}
 use Rattle.word.specs.declared.parity.Parity.TheVariants.{Even, Odd}

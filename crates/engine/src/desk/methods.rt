@@ -6,7 +6,7 @@ ghost use Rattle.engine.specs.Model.{is_open, parity_in, slots_of, pairs_of};
 ghost use Rattle.engine.specs.declared.desk.Slot.TheVariants.{Shut};
 
 use crate::desk::{Desk, Slot};
-use crate::fault::EngineFault;
+use crate::faults::EngineFault;
 use batch::Keyring;
 use component::Components;
 use shelf::Shelf;

@@ -9,7 +9,7 @@ ghost use Rattle.engine.specs.Runs.{Call, opens, closes, joins, leaves, loads, p
 
 use crate::desk::{Desk, Slot};
 use crate::engine::Engine;
-use crate::fault::EngineFault;
+use crate::faults::EngineFault;
 use crate::grant::{Grant, Unclosed};
 use batch::Keyring;
 use cipher::{Cipher, Profile, TailRule, all_bytes};

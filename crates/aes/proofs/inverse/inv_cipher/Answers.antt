@@ -19,7 +19,7 @@ loop-round-preserved c =
     let r : ℕ = c.loop-round.round - 1 in
     let e : suc (r - 1) ≡ r = omega arith in
     ap (inv_cipher_rounds w (r - 1))
-    (c.inv-cipher-round-state.ensures ∙ ap (λ k. inv_cipher_round k s) (with_key w _ _ (suc (r - 1)) c.round-key-in-loop-round.ensures (omega arith)))
+    (c.inv_cipher_round-state.ensures ∙ ap (λ k. inv_cipher_round k s) (with_key w _ _ (suc (r - 1)) c.round_key-in-loop-round.ensures (omega arith)))
     ∙ ap (λ n. inv_cipher_rounds w n s) e ∙ c.loop-round.invariant
 
 pub returns : goal.returns
@@ -28,8 +28,8 @@ returns c =
     let w : List ℕ = c.args.schedule.now in
     let s : List ℕ = state_bytes c.loop-round.state in
     let e : 0 ≡ c.loop-round.round - 1 = omega arith in
-    c.store.ensures ∙ c.last-inv-round.ensures
+    c.store.ensures ∙ c.last_inv_round.ensures
     ∙ ap₂ (λ s k. add_round_key (inv_sub_bytes (inv_shift_rows s)) k)
     (ap (λ n. inv_cipher_rounds w n s) e ∙ c.loop-round.invariant
-    ∙ ap (inv_cipher_rounds w 9) (c.add-round-key-state.ensures ∙ ap₂ add_round_key c.load.ensures c.round-key.ensures))
-    c.round-key-2.ensures
+    ∙ ap (inv_cipher_rounds w 9) (c.add_round_key-state.ensures ∙ ap₂ add_round_key c.load.ensures c.round_key.ensures))
+    c.round_key-2.ensures

@@ -7,8 +7,8 @@ use Rattle.aes.proofs.inverse.inv_column.Goals as goal
 pub returns : goal.returns
 unfolding word_bytes
 returns c =
-    keyed_diagonal inv_s_box c.args.a c.args.b c.args.c c.args.d c.inv-sub-byte-p.result c.inv-sub-byte-q.result c.inv-sub-byte-r.result c.inv-sub-byte-s.result c.from-le-bytes.result c.args.key
-    c.inv-sub-byte-p.type-inv c.inv-sub-byte-q.type-inv c.inv-sub-byte-r.type-inv c.inv-sub-byte-s.type-inv
-    (c.inv-sub-byte-p.ensures ∙ ap (λ t. inv_s_box (get_or t 0 0)) c.to-le-bytes.ensures) (c.inv-sub-byte-q.ensures ∙ ap (λ t. inv_s_box (get_or t 1 0)) c.to-le-bytes-2.ensures)
-    (c.inv-sub-byte-r.ensures ∙ ap (λ t. inv_s_box (get_or t 2 0)) c.to-le-bytes-3.ensures) (c.inv-sub-byte-s.ensures ∙ ap (λ t. inv_s_box (get_or t 3 0)) c.to-le-bytes-4.ensures)
-    c.from-le-bytes.ensures
+    keyed_diagonal inv_s_box c.args.a c.args.b c.args.c c.args.d c.inv_sub_byte-p.result c.inv_sub_byte-q.result c.inv_sub_byte-r.result c.inv_sub_byte-s.result c.from_le_bytes.result c.args.key
+    c.inv_sub_byte-p.type_inv c.inv_sub_byte-q.type_inv c.inv_sub_byte-r.type_inv c.inv_sub_byte-s.type_inv
+    (c.inv_sub_byte-p.ensures ∙ ap (λ t. inv_s_box (get_or t 0 0)) c.to_le_bytes.ensures) (c.inv_sub_byte-q.ensures ∙ ap (λ t. inv_s_box (get_or t 1 0)) c.to_le_bytes-2.ensures)
+    (c.inv_sub_byte-r.ensures ∙ ap (λ t. inv_s_box (get_or t 2 0)) c.to_le_bytes-3.ensures) (c.inv_sub_byte-s.ensures ∙ ap (λ t. inv_s_box (get_or t 3 0)) c.to_le_bytes-4.ensures)
+    c.from_le_bytes.ensures

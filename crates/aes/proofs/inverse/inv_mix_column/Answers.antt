@@ -13,7 +13,7 @@ unfolding word_bytes alone
 returns c =
     let s : List ℕ = word_bytes c.args.x in
     summed inv_mix_byte inv_mix_linear (get_or s 0 0) (get_or s 1 0) (get_or s 2 0) (get_or s 3 0)
-    c.inv-mixed.result c.inv-mixed-2.result c.inv-mixed-3.result c.inv-mixed-4.result
-    (c.inv-mixed.ensures ∙ ap (λ t. alone (get_or t 0 0)) c.to-le-bytes.ensures) (c.inv-mixed-2.ensures ∙ ap (λ t. alone (get_or t 1 0)) c.to-le-bytes.ensures)
-    (c.inv-mixed-3.ensures ∙ ap (λ t. alone (get_or t 2 0)) c.to-le-bytes.ensures) (c.inv-mixed-4.ensures ∙ ap (λ t. alone (get_or t 3 0)) c.to-le-bytes.ensures)
-    c.turned-sum.ensures
+    c.inv_mixed.result c.inv_mixed-2.result c.inv_mixed-3.result c.inv_mixed-4.result
+    (c.inv_mixed.ensures ∙ ap (λ t. alone (get_or t 0 0)) c.to_le_bytes.ensures) (c.inv_mixed-2.ensures ∙ ap (λ t. alone (get_or t 1 0)) c.to_le_bytes.ensures)
+    (c.inv_mixed-3.ensures ∙ ap (λ t. alone (get_or t 2 0)) c.to_le_bytes.ensures) (c.inv_mixed-4.ensures ∙ ap (λ t. alone (get_or t 3 0)) c.to_le_bytes.ensures)
+    c.turned_sum.ensures

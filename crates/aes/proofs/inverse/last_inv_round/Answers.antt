@@ -7,4 +7,4 @@ use Rattle.aes.proofs.inverse.last_inv_round.Goals as goal
 
 pub returns : goal.returns
 unfolding byte_at state_of xor_bytes add_round_key inv_sub_bytes inv_shift_rows word_bytes state_bytes diagonal
-returns c = joined _ c.inv-column.ensures c.inv-column-2.ensures c.inv-column-3.ensures c.inv-column-4.ensures
+returns c = joined _ c.inv_column.ensures c.inv_column-2.ensures c.inv_column-3.ensures c.inv_column-4.ensures

@@ -6,4 +6,4 @@ use Rattle.aes.proofs.rounds.cipher_round.Goals as goal
 
 pub returns : goal.returns
 unfolding byte_at state_of columns xor_bytes sub_bytes shift_rows mix_columns add_round_key cipher_round word_bytes state_bytes column_of diagonal
-returns c = joined _ c.round-column.ensures c.round-column-2.ensures c.round-column-3.ensures c.round-column-4.ensures
+returns c = joined _ c.round_column.ensures c.round_column-2.ensures c.round_column-3.ensures c.round_column-4.ensures

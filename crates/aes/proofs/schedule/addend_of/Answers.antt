@@ -8,7 +8,7 @@ unfolding addend
 returns-then-i-eq0 c =
     let i : ℕ = c.args.i in
     let a : List ℕ = c.args.before in
-    c.xor-words.ensures ∙ ap₂ xor_bytes (c.sub-word.ensures ∙ ap sub_word c.rot-word.ensures) c.round-constant.ensures
+    c.xor_words.ensures ∙ ap₂ xor_bytes (c.sub_word.ensures ∙ ap sub_word c.rot_word.ensures) c.round_constant.ensures
     ∙ ap (λ n. cond (eqb n 0) (xor_bytes (sub_word (rot_word a)) (rcon (i / 4))) a) (sym c.if-i-eq0.true)
 
 pub returns-else-i-eq0 : goal.returns-else-i-eq0

@@ -6,4 +6,4 @@ use Rattle.aes.proofs.schedule.next_word.Goals as goal
 pub returns : goal.returns
 unfolding next_word
 returns c =
-    c.xor-words.ensures ∙ ap₂ xor_bytes c.word-at.ensures (c.addend-of.ensures ∙ ap (addend c.args.i) c.word-at-2.ensures)
+    c.xor_words.ensures ∙ ap₂ xor_bytes c.word_at.ensures (c.addend_of.ensures ∙ ap (addend c.args.i) c.word_at-2.ensures)

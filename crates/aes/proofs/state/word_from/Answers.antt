@@ -7,6 +7,6 @@ pub returns : goal.returns
 returns c =
     let s : List ℕ = c.args.s.now in
     let j : ℕ = c.args.j in
-    ap word_bytes c.from-le-bytes.ensures
+    ap word_bytes c.from_le_bytes.ensures
     ∙ made_bytes (get_or s j 0) (get_or s (j + 1) 0) (get_or s (j + 2) 0) (get_or s (j + 3) 0)
-    (c.type-inv.s j).fits (c.type-inv.s (j + 1)).fits (c.type-inv.s (j + 2)).fits (c.type-inv.s (j + 3)).fits
+    (c.type_inv.s j).fits (c.type_inv.s (j + 1)).fits (c.type_inv.s (j + 2)).fits (c.type_inv.s (j + 3)).fits

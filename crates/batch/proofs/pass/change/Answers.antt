@@ -1,4 +1,4 @@
-use Rattle.std.proofs.Common.{◌≡◌, ℕ, ◌+◌, ◌*◌, ◌%◌, length, get_or, ap, ◌∙◌, arith}
+use Rattle.std.proofs.Common.{◌≡◌, ◌+◌, ◌*◌, ◌%◌, length, get_or, ap, ◌∙◌, arith}
 use Rattle.cipher.specs.Profiles.{meaning}
 use Rattle.packet.specs.Header.{control_bits, with_control}
 use Rattle.packet.specs.declared.header.ScramblingControl.{ScramblingControl}
@@ -11,8 +11,8 @@ returns g c =
     let m = meaning g.C.Cipher g.T.TailRule c.args.profile.now in
     let how = c.args.how in
     let p = c.args.packet.now in
-    let is = c.set-control.ensures ∙ ap (λ (k : ScramblingControl). with_control k p) c.control-after.ensures in
-    let long : length c.set-control.new.packet ≡ 188 = c.set-control.auto.packet ∙ c.requires.size in
-    marked_put (payload_after c.args.direction m how.word) p c.set-control.new.packet c.change-payload.new.payload how.start 188
+    let is = c.set_control.ensures ∙ ap (λ (k : ScramblingControl). with_control k p) c.control_after.ensures in
+    let long : length c.set_control.new.packet ≡ 188 = c.set_control.auto.packet ∙ c.requires.size in
+    marked_put (payload_after c.args.direction m how.word) p c.set_control.new.packet c.change_payload.new.payload how.start 188
     (control_bits (control_after c.args.direction how.parity) * 64 + get_or p 3 0 % 64) long (omega arith) (omega arith) is
-    (c.change-payload.ensures how.word c.requires.prepared)
+    (c.change_payload.ensures how.word c.requires.prepared)

@@ -1,4 +1,4 @@
-use Rattle.std.proofs.Common.{◌≡◌, ℕ, ◌+◌, ◌-◌, ◌*◌, ◌/◌, ◌<◌, ◌≤◌, Bool, true, false, cond, List, map, length, take, drop, sym, ap, ◌∙◌, arith}
+use Rattle.std.proofs.Common.{◌≡◌, ℕ, ◌+◌, ◌*◌, ◌/◌, ◌<◌, Bool, true, false, cond, List, map, length, take, drop, sym, ap, ◌∙◌, arith}
 use Rattle.std.specs.List.{range_with_len}
 use Rattle.cipher.specs.Profiles.{meaning}
 use Rattle.batch.specs.Batches.{changed}
@@ -6,10 +6,10 @@ use Rattle.batch.specs.Packets.{packet_at, packets, changes, followed, changed_c
 use Rattle.batch.specs.Plan.{keys_of, plan_of}
 use Rattle.batch.proofs.Passes.{change_step, changed_more, passed_more, change_all}
 use Rattle.batch.proofs.pass.change_all.Goals as goal
-use Rattle.batch.proofs.pass.change_all.Goals.{then-follow-at, else-follow-at}
+use Rattle.batch.proofs.pass.change_all.Goals.{then-follow_at, else-follow_at}
 
-pub follow-at-requires : goal.follow-at-requires
-follow-at-requires g c =
+pub follow_at-requires : goal.follow_at-requires
+follow_at-requires g c =
     record {
       long = c.loop-i.auto.area ∙ c.requires.long;
       prepared = c.loop-i.invariant.5;
@@ -26,20 +26,20 @@ loop-i-preserved g c =
     let i = c.loop-i.i in
     let inside : i < length e / 188 = omega arith in
     let part : packet_at b i ≡ packet_at e i = ap (take 188) c.loop-i.invariant.1 in
-    let test = c.follow-at.ensures.value ∙ ap (λ (p : List ℕ). changes (plan p)) part in
-    let size = ap (λ (p : List ℕ). length (f p)) (sym part) ∙ c.follow-at.ensures.size in
+    let test = c.follow_at.ensures.value ∙ ap (λ (p : List ℕ). changes (plan p)) part in
+    let size = ap (λ (p : List ℕ). length (f p)) (sym part) ∙ c.follow_at.ensures.size in
     let step = change_step f e b i inside c.loop-i.auto.batch c.loop-i.invariant.0 c.loop-i.invariant.1 size in
-    let front = ap (take (188 * (i + 1))) c.follow-at.ensures.after ∙ step.0 in
-    let back = ap (drop (188 * (i + 1))) c.follow-at.ensures.after ∙ step.1 in
-    let counts : (v : Bool) → c.follow-at.result ≡ v → (c.loop-i.changed + cond v 1 0 ≡ changed_count plan (map (packet_at e) (range_with_len 0 (i + 1)))) × (c.loop-i.passed + cond v 0 1 ≡ passed_count plan (map (packet_at e) (range_with_len 0 (i + 1))))
+    let front = ap (take (188 * (i + 1))) c.follow_at.ensures.after ∙ step.0 in
+    let back = ap (drop (188 * (i + 1))) c.follow_at.ensures.after ∙ step.1 in
+    let counts : (v : Bool) → c.follow_at.result ≡ v → (c.loop-i.changed + cond v 1 0 ≡ changed_count plan (map (packet_at e) (range_with_len 0 (i + 1)))) × (c.loop-i.passed + cond v 0 1 ≡ passed_count plan (map (packet_at e) (range_with_len 0 (i + 1))))
     = λ v h. (changed_more plan e i c.loop-i.changed v (sym h ∙ test) c.loop-i.invariant.2, passed_more plan e i c.loop-i.passed v (sym h ∙ test) c.loop-i.invariant.3) in
-    elim c.if-follow-at.branch [
-      | then-follow-at w ↦
-          let n = counts true w.if-follow-at.true in
-          (front, back, omega (arith, n.0, w.changed-is), omega (arith, n.1, w.passed-is), omega (arith, w.changed-is, w.passed-is), c.follow-at.ensures.prepared)
-      | else-follow-at w ↦
-          let n = counts false w.if-follow-at.false in
-          (front, back, omega (arith, n.0, w.changed-is), omega (arith, n.1, w.passed-is), omega (arith, w.changed-is, w.passed-is), c.follow-at.ensures.prepared)
+    elim c.if-follow_at.branch [
+      | then-follow_at w ↦
+          let n = counts true w.if-follow_at.true in
+          (front, back, omega (arith, n.0, w.changed-is), omega (arith, n.1, w.passed-is), omega (arith, w.changed-is, w.passed-is), c.follow_at.ensures.prepared)
+      | else-follow_at w ↦
+          let n = counts false w.if-follow_at.false in
+          (front, back, omega (arith, n.0, w.changed-is), omega (arith, n.1, w.passed-is), omega (arith, w.changed-is, w.passed-is), c.follow_at.ensures.prepared)
     ]
 
 pub returns : goal.returns

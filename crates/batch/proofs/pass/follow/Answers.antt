@@ -7,6 +7,6 @@ pub change-requires : goal.change-requires
 change-requires g c =
     let keys = keys_of g.K.Keyring c.args.keys.now in
     let answer = c.in-Ok-Some.ensures in
-    let planned : ◌≡◌ {A = Plan} (Ok (Some c.in-Ok-Some.how)) (plan_for c.args.direction keys c.header-of.result) = cc in
-    let inside = change_inside c.args.direction keys c.header-of.result c.in-Ok-Some.how planned in
+    let planned : ◌≡◌ {A = Plan} (Ok (Some c.in-Ok-Some.how)) (plan_for c.args.direction keys c.header_of.result) = cc in
+    let inside = change_inside c.args.direction keys c.header_of.result c.in-Ok-Some.how planned in
     record { size = c.requires.size; low = inside.0; high = omega arith; prepared = c.prepare.ensures.is }

@@ -1,4 +1,4 @@
-use Rattle.std.proofs.Common.{◌≡◌, ℕ, ◌*◌, List, length, sym, refl, ap, ◌∙◌, arith}
+use Rattle.std.proofs.Common.{◌≡◌, ℕ, ◌*◌, List, length, sym, refl, ap, ◌∙◌}
 use Rattle.cipher.specs.Profiles.{meaning}
 use Rattle.batch.specs.Batches.{changed}
 use Rattle.batch.specs.Packets.{packet_at, replaced, changes, followed}

@@ -1,4 +1,4 @@
-use Rattle.std.proofs.Common.{◌≡◌, ℕ, suc, ◌+◌, ◌-◌, ◌*◌, ◌/◌, ◌%◌, ◌^◌, ◌<◌, ◌≤◌, List, length, get_or, take, sym, refl, ap, ◌∙◌, ap₂, mul_assoc, add-mul, mul-one, arith, pow-add}
+use Rattle.std.proofs.Common.{◌≡◌, ℕ, ◌+◌, ◌-◌, ◌*◌, ◌/◌, ◌%◌, ◌^◌, ◌<◌, ◌≤◌, List, length, get_or, take, sym, ap, ◌∙◌, ap₂, mul_assoc, add-mul, mul-one, arith, pow-add}
 use lib.Arith.{digits_lt}
 use lib.Bits.{bit_or, and_mask}
 use Rattle.std.proofs.ByRecursion.{All-get_or}
@@ -15,11 +15,11 @@ pub loop-t-init : goal.loop-t-init
 unfolding number permuted
 loop-t-init c = omega (arith, mul-one c.args.y)
 
-pub overflow-sub-z : goal.overflow-sub-z
-overflow-sub-z c = (named c).1
+pub overflow_sub-z : goal.overflow_sub-z
+overflow_sub-z c = (named c).1
 
-pub overflow-shr-z : goal.overflow-shr-z
-overflow-shr-z c = omega (arith, named c)
+pub overflow_shr-z : goal.overflow_shr-z
+overflow_shr-z c = omega (arith, named c)
 
 pub loop-t-preserved : goal.loop-t-preserved
 unfolding bit

@@ -1,4 +1,4 @@
-use Rattle.std.proofs.Common.{◌≡◌, ℕ, ◌+◌, ◌*◌, ◌%◌, ◌^◌, ◌<◌, ◌≤◌, List, length, get_or, take, sym, refl, ap, ◌∙◌, ap₂, arith}
+use Rattle.std.proofs.Common.{◌≡◌, ℕ, ◌*◌, ◌%◌, ◌^◌, ◌<◌, List, length, get_or, take, sym, refl, ap, ◌∙◌, ap₂, arith}
 use lib.Bits.{bit_or}
 use Rattle.std.specs.List.{AllByRecursion as All}
 use Rattle.std.proofs.ByRecursion.{All-from_get_or, All-take}
@@ -15,11 +15,11 @@ pub loop-b-preserved : goal.loop-b-preserved
 loop-b-preserved c =
     let xs : List ℕ = c.args.bytes.now in
     let i : ℕ = c.loop-b.b-index in
-    let small : All (λ x. x < 2 ^ 8) xs = All-from_get_or (λ x. x < 256) xs 0 (λ k h. (c.type-inv.bytes k).fits) in
+    let small : All (λ x. x < 2 ^ 8) xs = All-from_get_or (λ x. x < 256) xs 0 (λ k h. (c.type_inv.bytes k).fits) in
     let front : List ℕ = take i xs in
     let n : length front ≡ i = length-take-le i xs (omega arith) in
     ap₂ (λ x b. bit_or (x * 256 % 2 ^ 64) b) c.loop-b.invariant c.from.ensures
-    ∙ appended 64 (8 * length front) 8 (number 8 front) (get_or xs i 0) (number_lt 8 front (All-take (λ x. x < 2 ^ 8) i xs small)) (c.type-inv.bytes i).fits (omega arith)
+    ∙ appended 64 (8 * length front) 8 (number 8 front) (get_or xs i 0) (number_lt 8 front (All-take (λ x. x < 2 ^ 8) i xs small)) (c.type_inv.bytes i).fits (omega arith)
     ∙ sym (number_more 8 xs i c.loop-b-test.true)
 
 pub returns : goal.returns

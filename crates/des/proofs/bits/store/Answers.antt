@@ -1,4 +1,4 @@
-use Rattle.std.proofs.Common.{◌≡◌, ℕ, ◌+◌, ◌-◌, ◌*◌, ◌/◌, ◌%◌, ◌^◌, ◌<◌, ◌≤◌, List, length, get_or, set, sym, ap, ◌∙◌, subst, arith}
+use Rattle.std.proofs.Common.{◌≡◌, ℕ, ◌+◌, ◌-◌, ◌*◌, ◌/◌, ◌%◌, ◌^◌, ◌<◌, get_or, set, sym, ap, ◌∙◌, subst, arith}
 use lib.Bits.{bit_and, and_mask}
 use Rattle.std.proofs.lemmas.Nat.{mul-le, one_shl}
 use Rattle.std.proofs.lemmas.List.FromFn.{fill_by_all}
@@ -6,8 +6,8 @@ use Rattle.std.proofs.lemmas.List.Edits.{fill_by_more}
 use Rattle.des.specs.Bits.{groups}
 use Rattle.des.proofs.bits.store.Goals as goal
 
-pub overflow-shr-out : goal.overflow-shr-out
-overflow-shr-out c = omega (arith, mul-le c.args.width (7 - c.loop-i.i) 8 7 c.requires.1 (omega arith))
+pub overflow_shr-out : goal.overflow_shr-out
+overflow_shr-out c = omega (arith, mul-le c.args.width (7 - c.loop-i.i) 8 7 c.requires.1 (omega arith))
 
 pub loop-i-preserved : goal.loop-i-preserved
 loop-i-preserved c =

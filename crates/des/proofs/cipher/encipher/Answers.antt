@@ -13,7 +13,7 @@ loop-n-preserved c =
     let w : List ℕ = c.args.schedule.now in
     let n : ℕ = c.loop-n.n in
     let e : suc n ≡ n + 1 = omega arith in
-    c.after-round-halves.ensures ∙ ap₂ round c.round-key.ensures.key c.loop-n.invariant ∙ ap (λ m. forwards w m c.of-halves.result) e
+    c.after_round-halves.ensures ∙ ap₂ round c.round_key.ensures.key c.loop-n.invariant ∙ ap (λ m. forwards w m c.of-halves.result) e
 
 pub returns : goal.returns
 unfolding crypted enciphered
@@ -22,9 +22,9 @@ returns c =
     let e : c.loop-n.n ≡ 16 = omega arith in
     c.store.ensures
     ∙ ap (groups 8 8)
-    (c.inverse-permutation.ensures
+    (c.inverse_permutation.ensures
     ∙ ap IP⁻¹
     (c.exchanged.ensures
     ∙ ap preoutput
     (c.loop-n.invariant ∙ ap (λ m. forwards w m c.of-halves.result) e
-    ∙ ap (forwards w 16) (c.of-halves.ensures ∙ ap halves (c.initial-permutation.ensures ∙ ap IP c.load.ensures)))))
+    ∙ ap (forwards w 16) (c.of-halves.ensures ∙ ap halves (c.initial_permutation.ensures ∙ ap IP c.load.ensures)))))

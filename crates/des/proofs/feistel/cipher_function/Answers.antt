@@ -1,5 +1,5 @@
-use Rattle.std.proofs.Common.{◌≡◌, ℕ, ◌+◌, ◌-◌, ◌*◌, ◌/◌, ◌%◌, ◌^◌, ◌<◌, ◌≤◌, List, map, length, get_or, sym, refl, ap, ◌∙◌, ap₂, arith}
-use lib.Bits.{bit_and, bit_or, bit_xor, and_mask}
+use Rattle.std.proofs.Common.{◌≡◌, ℕ, ◌-◌, ◌*◌, ◌/◌, ◌%◌, ◌^◌, List, map, get_or, sym, refl, ap, ◌∙◌, ap₂, arith}
+use lib.Bits.{bit_or, bit_xor, and_mask}
 use Rattle.std.specs.List.{range_with_len}
 use Rattle.des.specs.Bits.{number, groups}
 use Rattle.des.specs.Cipher.{E, P, S, f}

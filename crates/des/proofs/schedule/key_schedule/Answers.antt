@@ -1,5 +1,5 @@
-use Rattle.std.proofs.Common.{◌≡◌, ℕ, suc, ◌+◌, ◌-◌, ◌*◌, ◌/◌, ◌%◌, ◌^◌, ◌<◌, ◌≤◌, List, ◌++◌, length, drop, sym, refl, ap, ◌∙◌, ap₂, append-nil, arith, lit≤, drop_of_length-le}
-use lib.Bits.{bit_or, bit_and, and_mask, and_le_r}
+use Rattle.std.proofs.Common.{◌≡◌, ℕ, suc, ◌+◌, ◌-◌, ◌*◌, ◌/◌, ◌%◌, ◌^◌, ◌≤◌, List, ◌++◌, length, drop, refl, ap, ◌∙◌, ap₂, append-nil, arith, lit≤, drop_of_length-le}
+use lib.Bits.{bit_or, and_mask, and_le_r}
 use borrow.Rule.Slice.PartMut.{put_mid}
 use Rattle.des.specs.Bits.{number, groups}
 use Rattle.des.specs.Schedule.{PC_1, PC_2, left_shift, shifted, C, D, KS, key_schedule}
@@ -8,27 +8,27 @@ use Rattle.des.proofs.Keys.{PC_1_lt, C_lt, D_lt, round_keys, round_keys_more, ro
 use Rattle.des.proofs.Shifts.{shift_le}
 use Rattle.des.proofs.schedule.key_schedule.Goals as goal
 
-pub overflow-cast-c : goal.overflow-cast-c
-overflow-cast-c c = record { fits = omega (arith, c.permuted-choice-1-chosen.ensures, PC_1_lt c.load.result) }
+pub overflow_cast-c : goal.overflow_cast-c
+overflow_cast-c c = record { fits = omega (arith, c.permuted_choice_1-chosen.ensures, PC_1_lt c.load.result) }
 
-pub overflow-cast-d : goal.overflow-cast-d
-overflow-cast-d c = record { fits = omega (arith, and_le_r c.permuted-choice-1-chosen.result 268435455) }
+pub overflow_cast-d : goal.overflow_cast-d
+overflow_cast-d c = record { fits = omega (arith, and_le_r c.permuted_choice_1-chosen.result 268435455) }
 
 pub loop-n-init : goal.loop-n-init
 unfolding C D shifted
 loop-n-init c =
-    let e : c.permuted-choice-1-chosen.result ≡ PC_1 (number 8 c.args.key.now) = c.permuted-choice-1-chosen.ensures ∙ ap PC_1 c.load.ensures in
-    (ap (λ x. x / 2 ^ 28) e, and_mask c.permuted-choice-1-chosen.result 28 ∙ ap (λ x. x % 2 ^ 28) e, refl)
+    let e : c.permuted_choice_1-chosen.result ≡ PC_1 (number 8 c.args.key.now) = c.permuted_choice_1-chosen.ensures ∙ ap PC_1 c.load.ensures in
+    (ap (λ x. x / 2 ^ 28) e, and_mask c.permuted_choice_1-chosen.result 28 ∙ ap (λ x. x % 2 ^ 28) e, refl)
 
 pub rotate-c-requires : goal.rotate-c-requires
 rotate-c-requires c =
     let n : ℕ = c.loop-n.n in
-    omega (arith, c.loop-n.invariant.0, C_lt c.args.key.now n (omega arith), c.left-shift-by.ensures, shift_le n c.loop-n-test.true)
+    omega (arith, c.loop-n.invariant.0, C_lt c.args.key.now n (omega arith), c.left_shift-by.ensures, shift_le n c.loop-n-test.true)
 
 pub rotate-d-requires : goal.rotate-d-requires
 rotate-d-requires c =
     let n : ℕ = c.loop-n.n in
-    omega (arith, c.loop-n.invariant.1, D_lt c.args.key.now n (omega arith), c.left-shift-by.ensures, shift_le n c.loop-n-test.true)
+    omega (arith, c.loop-n.invariant.1, D_lt c.args.key.now n (omega arith), c.left_shift-by.ensures, shift_le n c.loop-n-test.true)
 
 pub loop-n-preserved : goal.loop-n-preserved
 unfolding C D shifted KS
@@ -38,10 +38,10 @@ loop-n-preserved c =
     let n : ℕ = c.loop-n.n in
     let e : suc n ≡ n + 1 = omega arith in
     let d : 8 * n + (8 * n + 8 - 8 * n) ≡ 8 * (n + 1) = omega arith in
-    let is-C : c.rotate-c.result ≡ C key (n + 1) = c.rotate-c.ensures ∙ ap₂ left_shift c.left-shift-by.ensures c.loop-n.invariant.0 ∙ ap (C key) e in
-    let is-D : c.rotate-d.result ≡ D key (n + 1) = c.rotate-d.ensures ∙ ap₂ left_shift c.left-shift-by.ensures c.loop-n.invariant.1 ∙ ap (D key) e in
-    let is-K : c.permuted-choice-2-round-key.result ≡ KS key (n + 1) =
-    c.permuted-choice-2-round-key.ensures
+    let is-C : c.rotate-c.result ≡ C key (n + 1) = c.rotate-c.ensures ∙ ap₂ left_shift c.left_shift-by.ensures c.loop-n.invariant.0 ∙ ap (C key) e in
+    let is-D : c.rotate-d.result ≡ D key (n + 1) = c.rotate-d.ensures ∙ ap₂ left_shift c.left_shift-by.ensures c.loop-n.invariant.1 ∙ ap (D key) e in
+    let is-K : c.permuted_choice_2-round_key.result ≡ KS key (n + 1) =
+    c.permuted_choice_2-round_key.ensures
     ∙ ap PC_2
     (ap₂ (λ x y. bit_or (x * 2 ^ 28 % 2 ^ 64) y) is-C is-D
     ∙ appended 64 28 28 (C key (n + 1)) (D key (n + 1)) (C_lt key (n + 1) (omega arith)) (D_lt key (n + 1) (omega arith)) (lit≤ tt)) in (

@@ -4,9 +4,9 @@ use Rattle.des.specs.Tables.{P_table}
 use Rattle.des.proofs.Permutations.{permuted_lt}
 use Rattle.des.proofs.tables.permutation.Goals as goal
 
-pub overflow-cast-result : goal.overflow-cast-result
+pub overflow_cast-result : goal.overflow_cast-result
 unfolding P_table
-overflow-cast-result c = record { fits = omega (arith, permuted_lt 32 P_table c.args.x) }
+overflow_cast-result c = record { fits = omega (arith, permuted_lt 32 P_table c.args.x) }
 
 pub returns : goal.returns
 unfolding P P_table

@@ -5,23 +5,23 @@ use Rattle.cipher.specs.Profiles.{meaning}
 use Rattle.restoring.proofs.Rehearsed.{rehearsed}
 use Rattle.restoring.proofs.rehearsal.rehearse.Goals as goal
 
-pub returns-in-err-descramble : goal.returns-in-err-descramble
-returns-in-err-descramble g c =
+pub returns-in_err-descramble : goal.returns-in_err-descramble
+returns-in_err-descramble g c =
     let p = c.args.profile.now in
     let again = rehearsed (meaning g.C.Cipher g.T.TailRule p) (keys_of g.K.Keyring c.args.keys.now)
     c.args.area.now c.args.batch.now c.scramble.new.area c.scramble.new.batch c.descramble.new.area c.descramble.new.batch
-    c.in-ok-counts.counts _
-    (g.met.C.Cipher.sizes, g.met.C.Cipher.inverts p.cipher, g.met.T.TailRule.inverts p.tail) (p.long, c.all-bytes.ensures)
-    c.scramble.auto.area c.scramble.auto.batch c.in-ok-counts.ensures c.in-err-descramble.ensures in
+    c.in_ok-counts.counts _
+    (g.met.C.Cipher.sizes, g.met.C.Cipher.inverts p.cipher, g.met.T.TailRule.inverts p.tail) (p.long, c.all_bytes.ensures)
+    c.scramble.auto.area c.scramble.auto.batch c.in_ok-counts.ensures c.in_err-descramble.ensures in
     absurd (false≢true again.0)
 
 pub returns : goal.returns
 returns g c =
     let p = c.args.profile.now in
-    let there = c.in-ok-counts.ensures in
+    let there = c.in_ok-counts.ensures in
     let again = rehearsed (meaning g.C.Cipher g.T.TailRule p) (keys_of g.K.Keyring c.args.keys.now)
     c.args.area.now c.args.batch.now c.scramble.new.area c.scramble.new.batch c.descramble.new.area c.descramble.new.batch
-    c.in-ok-counts.counts (Ok c.in-ok-descramble.field-0)
-    (g.met.C.Cipher.sizes, g.met.C.Cipher.inverts p.cipher, g.met.T.TailRule.inverts p.tail) (p.long, c.all-bytes.ensures)
-    c.scramble.auto.area c.scramble.auto.batch there c.in-ok-descramble.ensures in
+    c.in_ok-counts.counts (Ok c.in_ok-descramble.field-0)
+    (g.met.C.Cipher.sizes, g.met.C.Cipher.inverts p.cipher, g.met.T.TailRule.inverts p.tail) (p.long, c.all_bytes.ensures)
+    c.scramble.auto.area c.scramble.auto.batch there c.in_ok-descramble.ensures in
     record { answer = there.answer; same = again.1; wiped = again.2 }

@@ -7,5 +7,5 @@ pub returns : goal.returns
 returns g c =
     record {
       answer = search rules;
-      fresh = λ _. fresh (meaning_of g.S.Shelf c.args.shelf.now) (sym c.if-holds-word.ensures) (sym c.if-loaded.ensures);
+      fresh = λ _. fresh (meaning_of g.S.Shelf c.args.shelf.now) (sym c.if-holds_word.ensures) (sym c.if-loaded.ensures);
     }

@@ -4,4 +4,4 @@ use Rattle.aes.proofs.state.State.load.Goals as goal
 
 pub returns : goal.returns
 returns c =
-    joined _ c.word-from.ensures c.word-from-2.ensures c.word-from-3.ensures c.word-from-4.ensures ∙ sixteen c.args.block.now c.requires
+    joined _ c.word_from.ensures c.word_from-2.ensures c.word_from-3.ensures c.word_from-4.ensures ∙ sixteen c.args.block.now c.requires

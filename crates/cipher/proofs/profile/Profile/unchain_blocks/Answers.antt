@@ -9,18 +9,18 @@ loop-payload-preserved g c =
     let sizes = g.met.C.Cipher.sizes in
     let p = c.loop-payload.payload in
     let at = c.loop-payload.at in
-    let s = c.block-len-width.result in
+    let s = c.block_len-width.result in
     let chain = c.loop-payload.chain in
-    let b = c.unchain-block.new.block in
-    let step = c.unchain-block.ensures in
+    let b = c.unchain_block.new.block in
+    let step = c.unchain_block.ensures in
     let fits : at + s ≤ length p = omega arith in
     let long : length b ≡ s = search rules in (
       search (rules, length_put_part at (at + s - at) p b (omega arith) (omega arith)),
       λ w e.
           let eb = step.block w e in
-          let width = c.block-len-width.ensures in
+          let width = c.block_len-width.ensures in
           let same : take (at + s - at) (drop at p) ≡ take m.width (drop at p) = ap (λ n. take n (drop at p)) (omega arith) in
-          walk_more m.width (unchained m.width (m.E c.args.self.now.cipher w) (m.D c.args.self.now.cipher w) (g.T.TailRule.off c.args.self.now.tail)) (omega arith) p chain b c.unchain-block.new.chain at s width fits long (λ n. cc)
+          walk_more m.width (unchained m.width (m.E c.args.self.now.cipher w) (m.D c.args.self.now.cipher w) (g.T.TailRule.off c.args.self.now.tail)) (omega arith) p chain b c.unchain_block.new.chain at s width fits long (λ n. cc)
           ∙ c.loop-payload.invariant.1 w e,
     )
 
@@ -32,7 +32,7 @@ returns g c =
     let at = c.loop-payload.at in
     let short : length p - at < m.width = omega arith in
     λ w e.
-    let mask = c.make-mask.ensures w e in
-    let tail = c.descramble-tail.ensures in
-    walk_all m.width (unchained m.width (m.E c.args.self.now.cipher w) (m.D c.args.self.now.cipher w) (g.T.TailRule.off c.args.self.now.tail)) (omega arith) p c.loop-payload.chain c.descramble-tail.new.tail at c.loop-payload.invariant.0 short (cc)
+    let mask = c.make_mask.ensures w e in
+    let tail = c.descramble_tail.ensures in
+    walk_all m.width (unchained m.width (m.E c.args.self.now.cipher w) (m.D c.args.self.now.cipher w) (g.T.TailRule.off c.args.self.now.tail)) (omega arith) p c.loop-payload.chain c.descramble_tail.new.tail at c.loop-payload.invariant.0 short (cc)
     ∙ c.loop-payload.invariant.1 w e

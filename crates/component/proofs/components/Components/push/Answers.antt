@@ -17,17 +17,16 @@ listed c = free c.args.self.now c.requires.room
 pub bounds-self-self : goal.bounds-self-self
 bounds-self-self c = omega (arith, c.requires.room, count_is c.args.self.now)
 
-pub invariant-of-self : goal.invariant-of-self
+pub invariant_of-self : goal.invariant_of-self
 unfolding components_of joined
-invariant-of-self c =
+invariant_of-self c =
     let t = c.args.self.now in
-    let new = c.args.component in (
-      length-set t.rows t.len new ∙ t.long,
-      (
-        omega (arith, c.requires.room, count_is t),
-        (ap apart (take_more_set t.rows t.len new (free t c.requires.room)) ∙ apart_more (take t.len t.rows) new t.apart c.requires.fresh, tt),
-      ),
-    )
+    let new = c.args.component in
+    record {
+      long = length-set t.rows t.len new ∙ t.long;
+      few = omega (arith, c.requires.room, count_is t);
+      apart = ap apart (take_more_set t.rows t.len new (free t c.requires.room)) ∙ apart_more (take t.len t.rows) new t.apart c.requires.fresh;
+    }
 
 pub returns : goal.returns
 unfolding components_of joined count

@@ -7,12 +7,16 @@ use Rattle.component.proofs.Lookups.{apart_kept, joined_staying}
 use Rattle.component.proofs.Tables.{count_staying}
 use Rattle.component.proofs.components.Components.take_out.Goals as goal
 
-pub invariant-of-self : goal.invariant-of-self
-invariant-of-self c =
+pub invariant_of-self : goal.invariant_of-self
+invariant_of-self c =
     let t = c.args.self.now in
     let e = c.squeeze-self.ensures in
     let front : take c.squeeze-self.result c.squeeze-self.new.rows ≡ staying c.args.leaving (take t.len t.rows) = e.front in
-    (c.squeeze-self.auto.rows ∙ t.long, (omega (arith, e.few, t.few), (ap apart front ∙ apart_kept (λ r. not (leaves c.args.leaving r)) (take t.len t.rows) t.apart, tt)))
+    record {
+      long = c.squeeze-self.auto.rows ∙ t.long;
+      few = omega (arith, e.few, t.few);
+      apart = ap apart front ∙ apart_kept (λ r. not (leaves c.args.leaving r)) (take t.len t.rows) t.apart;
+    }
 
 pub returns : goal.returns
 unfolding components_of joined count

@@ -9,4 +9,4 @@ both l r = record { left = l; right = r }
 
 pub returns : goal.returns
 unfolding round both
-returns c = ap (λ y. both c.args.self.right (bit_xor c.args.self.left y)) c.cipher-function.ensures
+returns c = ap (λ y. both c.args.self.right (bit_xor c.args.self.left y)) c.cipher_function.ensures

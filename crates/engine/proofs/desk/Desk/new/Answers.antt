@@ -1,4 +1,4 @@
-use Rattle.std.proofs.Common.{map, refl, ap, rules}
+use Rattle.std.proofs.Common.{map, refl, ap}
 use Rattle.shelf.proofs.Tables.{at_replicate}
 use Rattle.engine.specs.declared.desk.Slot.{Slot}
 use Rattle.engine.specs.declared.desk.Slot.TheVariants.{Shut}
@@ -7,9 +7,9 @@ use Rattle.engine.proofs.desk.Desk.new.Goals as goal
 pub returns : goal.returns
 returns g c =
     record {
-      held = c.wipe-all.ensures.held;
-      next = c.wipe-all.ensures.next;
-      reads = c.wipe-all.ensures.reads;
+      held = c.wipe_all.ensures.held;
+      next = c.wipe_all.ensures.next;
+      reads = c.wipe_all.ensures.reads;
       slots = λ k. at_replicate (λ (s : Slot). s) 32 k Shut Shut refl;
       components = ap (map (λ c. (c.pid, c.service.number))) c.new.ensures.rows;
       joined = c.new.ensures.joined;

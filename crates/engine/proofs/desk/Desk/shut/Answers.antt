@@ -10,6 +10,6 @@ returns g c =
       next = search rules;
       reads = search rules;
       slots = search rules;
-      components = without_service_lem c.args.self.now.components _ c.args.service.number (ap components_of c.set-slot.ensures.components ∙ c.remove-service.ensures.rows);
+      components = without_service_lem c.args.self.now.components _ c.args.service.number (ap components_of c.set_slot.ensures.components ∙ c.remove_service.ensures.rows);
       joined = search rules;
     }

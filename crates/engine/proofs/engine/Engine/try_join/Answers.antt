@@ -6,13 +6,13 @@ use Rattle.engine.specs.Faults.{join_fault}
 use Rattle.engine.specs.Model.{slots_of}
 use Rattle.engine.proofs.engine.Engine.try_join.Goals as goal
 
-pub returns-in-err-add : goal.returns-in-err-add
-returns-in-err-add g c =
-    let r = c.from-residual-in-err-add.result in
-    let e : r ≡ Err (join_fault c.in-err-add.field-0.0) = search rules in
-    let a = added c.args.self.now.desk.components c.add.new.self c.args.service c.args.pid c.in-ok-open.open c.add.result r c.in-ok-open.ensures.0 (e ∙ ap lifted (sym c.in-err-add.was)) c.add.ensures.answer c.add.ensures.rows c.add.ensures.joined in
+pub returns-in_err-add : goal.returns-in_err-add
+returns-in_err-add g c =
+    let r = c.from_residual-in_err-add.result in
+    let e : r ≡ Err (join_fault c.in_err-add.field-0.0) = search rules in
+    let a = added c.args.self.now.desk.components c.add.new.self c.args.service c.args.pid c.in_ok-open.open c.add.result r c.in_ok-open.ensures.0 (e ∙ ap lifted (sym c.in_err-add.was)) c.add.ensures.answer c.add.ensures.rows c.add.ensures.joined in
     record {
-      answer = a.answer ∙ unless_none (closed (slots_of c.args.self.now.desk) c.args.service) _ c.in-ok-open.ensures.1;
+      answer = a.answer ∙ unless_none (closed (slots_of c.args.self.now.desk) c.args.service) _ c.in_ok-open.ensures.1;
       components = a.components;
       joined = a.joined_to;
       slots = refl;
@@ -24,9 +24,9 @@ returns-in-err-add g c =
 pub returns : goal.returns
 returns g c =
     let r : Answer = Ok tt in
-    let a = added c.args.self.now.desk.components c.add.new.self c.args.service c.args.pid c.in-ok-open.open c.add.result r c.in-ok-open.ensures.0 (ap lifted (sym c.in-ok-add.was)) c.add.ensures.answer c.add.ensures.rows c.add.ensures.joined in
+    let a = added c.args.self.now.desk.components c.add.new.self c.args.service c.args.pid c.in_ok-open.open c.add.result r c.in_ok-open.ensures.0 (ap lifted (sym c.in_ok-add.was)) c.add.ensures.answer c.add.ensures.rows c.add.ensures.joined in
     record {
-      answer = a.answer ∙ unless_none (closed (slots_of c.args.self.now.desk) c.args.service) _ c.in-ok-open.ensures.1;
+      answer = a.answer ∙ unless_none (closed (slots_of c.args.self.now.desk) c.args.service) _ c.in_ok-open.ensures.1;
       components = a.components;
       joined = a.joined_to;
       slots = refl;

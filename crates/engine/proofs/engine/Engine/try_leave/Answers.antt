@@ -2,7 +2,7 @@ use Rattle.std.proofs.Common.{◌≡◌, Bool, true, false, cond, is_some, Ok, E
 use Rattle.component.specs.Table.{joined}
 use Rattle.engine.proofs.Pairs.{left}
 use Rattle.engine.specs.Calls.{Answer}
-use Rattle.engine.specs.declared.fault.EngineFault.TheVariants.{NotJoined}
+use Rattle.engine.specs.declared.faults.EngineFault.TheVariants.{NotJoined}
 use Rattle.engine.proofs.engine.Engine.try_leave.Goals as goal
 
 pub returns-then-not-remove : goal.returns-then-not-remove
@@ -12,7 +12,7 @@ returns-then-not-remove g c =
     record {
       answer = ap (λ (b : Bool). cond {A = Answer} b (Ok tt) (Err NotJoined)) there;
       components = l.components;
-      joined = l.joined-to;
+      joined = l.joined_to;
       slots = refl;
       shelf = refl;
       profile = refl;
@@ -26,7 +26,7 @@ returns g c =
     record {
       answer = ap (λ (b : Bool). cond {A = Answer} b (Ok tt) (Err NotJoined)) there;
       components = l.components;
-      joined = l.joined-to;
+      joined = l.joined_to;
       slots = refl;
       shelf = refl;
       profile = refl;

@@ -10,8 +10,8 @@ returns-then-not-counts c = record {
   fault = tt;
 }
 
-pub returns-then-is-err : goal.returns-then-is-err
-returns-then-is-err c = record {
+pub returns-then-is_err : goal.returns-then-is_err
+returns-then-is_err c = record {
   kept = tt;
   sound = sound_pushed _ _ _ _ _ _ c.push.ensures.items c.requires.sound c.requires.kind (sym c.if-not-counts.ensures) c.requires.apart;
   same = refl;
@@ -20,7 +20,7 @@ returns-then-is-err c = record {
 
 pub returns : goal.returns
 returns c = record {
-  kept = kept_one _ _ _ _ _ c.push.ensures.items (sym c.if-is-err.ensures.value) (sym c.if-not-counts.ensures);
+  kept = kept_one _ _ _ _ _ c.push.ensures.items (sym c.if-is_err.ensures.value) (sym c.if-not-counts.ensures);
   sound = sound_pushed _ _ _ _ _ _ c.push.ensures.items c.requires.sound c.requires.kind (sym c.if-not-counts.ensures) c.requires.apart;
   same = refl;
   fault = tt;

@@ -10,5 +10,5 @@ returns c = λ _.
     let P : LogLine → Type 0 = λ m. is_for c.args.service.number c.args.parity m ≡ false in
     all_from_every P _
     (AllWithin-upto P _ 0 c.loop-line.line-index _
-    (subst (λ (ls : List LogLine). length ls ≤ c.loop-line.line-index) c.as-slice-line-items.ensures.value c.loop-line-test.false)
+    (subst (λ (ls : List LogLine). length ls ≤ c.loop-line.line-index) c.as_slice-line-items.ensures.value c.loop-line-test.false)
     c.loop-line.invariant)

@@ -1,5 +1,5 @@
-use Rattle.std.proofs.Common.{◌≡◌, ℕ, max, refl, ap, ◌∙◌, arith}
-use Rattle.shelf.specs.Paces.{PaceRow, rested}
+use Rattle.std.proofs.Common.{max, refl, ap, ◌∙◌, arith}
+use Rattle.shelf.specs.Paces.{PaceRow}
 use Rattle.shelf.specs.Shelves.{unpaced, row_of}
 use Rattle.shelf.proofs.Tables.{at_replicate}
 use Rattle.shelf.proofs.pacing.Pacing.new.Goals as goal

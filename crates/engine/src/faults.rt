@@ -1,7 +1,7 @@
 ghost use Rattle.std.specs.Prelude.{◌≡◌};
 ghost use Rattle.batch.specs.Faults.{engine_refusal};
 ghost use Rattle.engine.specs.Faults.{refusal_of, join_fault};
-ghost use Rattle.engine.specs.declared.fault.EngineFault.TheVariants.{Shelf, Batch};
+ghost use Rattle.engine.specs.declared.faults.EngineFault.TheVariants.{Shelf, Batch};
 
 use batch::BatchFault;
 use component::ComponentFault;

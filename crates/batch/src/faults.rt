@@ -1,6 +1,6 @@
 ghost use Rattle.std.specs.Prelude.{◌≡◌};
 ghost use Rattle.batch.specs.Faults.{batch_refusal, engine_refusal};
-ghost use Rattle.batch.specs.declared.fault.BatchFault.TheVariants.{Packet};
+ghost use Rattle.batch.specs.declared.faults.BatchFault.TheVariants.{Packet};
 
 use fault::{Layer, Refusal};
 use packet::PacketFault;
