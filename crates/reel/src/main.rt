@@ -54,7 +54,7 @@ fn not_understood(rt: &HostRuntime, bad: BadCommand) -> anyhow::Result<()> {
     match bad {
         BadCommand::Usage(what) => {
             report::print_usage(rt)?;
-            Err(what.into())
+            Err(anyhow!("{what}"))
         }
         BadCommand::Word(fault) => {
             report::print_entry_refusal(rt, &fault.refusal())?;

@@ -76,7 +76,7 @@ pub fn rehearse<C: Cipher + Drop, T: TailRule + Drop>(
 // A refusal is printed whole; what is left to say is short.
 fn refused(rt: &HostRuntime, fault: &EngineFault, done: u64) -> anyhow::Error {
     match report::print_refusal(rt, fault, done) {
-        Ok(()) => "the stream was refused, and nothing was written".into(),
+        Ok(()) => anyhow!("the stream was refused, and nothing was written"),
         Err(error) => error.into(),
     }
 }

@@ -1,5 +1,5 @@
 -- One step of a comparison: equal bytes go on, others stop, and the ends answer.
-use Rattle.std.proofs.Common.{◌≡◌, ℕ, ◌+◌, ◌<◌, ◌≤◌, min, Bool, cond, eqb, List, length, get_or, drop, Some, None, Option, ap, ◌∙◌, ⊎_elim, arith, eq-eqb, ne_eqb}
+use Rattle.std.proofs.Common.{◌≡◌, ℕ, ◌+◌, ◌<◌, ◌≤◌, min, Bool, cond, eqb, List, length, get_or, drop, Some, None, ap, ◌∙◌, ⊎_elim, arith, eq-eqb, ne_eqb}
 use Rattle.std.proofs.lemmas.List.{drop_more, drop_all}
 use Rattle.std.proofs.lemmas.Bool.{cases_order}
 use Rattle.vectors.specs.Vectors.{differs_from}

@@ -6,10 +6,10 @@ use Rattle.vectors.proofs.hex.decode.Goals as goal
 pub loop-i-preserved : goal.loop-i-preserved
 loop-i-preserved c =
     let long : vec_len c.loop-i.bytes ≡ c.loop-i.i = c.loop-i.invariant.0 in
-    let places = c.in-ok-push.ensures.by_index in (
-      omega (arith, c.in-ok-push.ensures.len),
+    let places = c.in_ok-push.ensures.by_index in (
+      omega (arith, c.in_ok-push.ensures.len),
       spelled_more
-          (spelled_at c.as-bytes-digits.result.now)
+          (spelled_at c.as_bytes-digits.result.now)
           (vec_items c.loop-i.bytes)
           (vec_items c.push.new.self)
           c.loop-i.i

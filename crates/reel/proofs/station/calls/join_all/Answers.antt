@@ -1,10 +1,10 @@
-use Rattle.std.proofs.Common.{◌≡◌, ℕ, ap, ◌∙◌}
+use Rattle.std.proofs.Common.{ℕ, ap, ◌∙◌}
 use Rattle.engine.specs.Model.{is_open}
 use Rattle.engine.specs.declared.desk.Slot.{Slot}
 use Rattle.reel.proofs.station.calls.join_all.Goals as goal
 
-pub returns-in-err-join : goal.returns-in-err-join
-returns-in-err-join g c =
+pub returns-in_err-join : goal.returns-in_err-join
+returns-in_err-join g c =
     let does = c.join.ensures.does in
     record {
       tag = does.tag ∙ c.loop-pid.invariant.0;

@@ -1,4 +1,4 @@
-use Rattle.std.proofs.Common.{◌≡◌, ℕ, ap, ◌∙◌}
+use Rattle.std.proofs.Common.{ℕ, ap, ◌∙◌}
 use Rattle.engine.specs.Model.{is_open}
 use Rattle.engine.specs.declared.desk.Slot.{Slot}
 use Rattle.reel.proofs.Opened.{open_after_pick}
