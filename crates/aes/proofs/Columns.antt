@@ -1,18 +1,18 @@
 -- A rule at each column of a state: it keeps bytes bytes, and a rule that undoes it at one byte undoes it at all.
 use Rattle.std.proofs.Common.{◌≡◌, ℕ, zero, suc, ◌+◌, ◌*◌, ◌/◌, ◌%◌, ◌<◌, List, [], ◌∷◌, map, length, get_or, refl, ap, ◌∙◌, ap₂, lit<}
-use Rattle.std.specs.List.{range_with_len, AllByRecursion as All}
+use Rattle.std.specs.List.{range_with_len, AllByRecursion}
 use Rattle.aes.specs.State.{Bytes, byte_at, state_of, columns}
 use Rattle.aes.proofs.Rows.{exactly}
 
 abbrev pub Small : List ℕ → Type 0
-Small = All (λ x. x < 256)
+Small = AllByRecursion (λ x. x < 256)
 
 pub small_at : (s : List ℕ) (k : ℕ) → Small s → get_or s k 0 < 256
 small_at [] k h = lit< tt
 small_at (x ∷ s) zero h = h.0
 small_at (x ∷ s) (suc k) h = small_at s k h.1
 
-all_of : (P : ℕ → Type 0) (f : ℕ → ℕ) → ((i : ℕ) → P (f i)) → (ks : List ℕ) → All P (map f ks)
+all_of : (P : ℕ → Type 0) (f : ℕ → ℕ) → ((i : ℕ) → P (f i)) → (ks : List ℕ) → AllByRecursion P (map f ks)
 all_of P f h [] = tt
 all_of P f h (k ∷ ks) = (h k, all_of P f h ks)
 

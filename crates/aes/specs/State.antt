@@ -1,10 +1,10 @@
 -- The state of FIPS 197, section 3.4: four rows and four columns of bytes, as the list of its sixteen bytes, column by column.
 use Rattle.std.specs.Prelude.{◌≡◌, ℕ, ◌+◌, ◌*◌, ◌/◌, ◌%◌, ◌<◌, List, [], ◌∷◌, map, length, bit_xor, slice_index}
-use Rattle.std.specs.List.{range_with_len, AllByRecursion as All}
+use Rattle.std.specs.List.{range_with_len, AllByRecursion}
 
 -- n bytes
 abbrev pub Bytes : ℕ → List ℕ → Type 0
-Bytes n s = (length s ≡ n) × All (λ x. x < 256) s
+Bytes n s = (length s ≡ n) × AllByRecursion (λ x. x < 256) s
 
 -- the byte of a state in row r and column c
 unfoldable pub byte_at : List ℕ → ℕ → ℕ → ℕ

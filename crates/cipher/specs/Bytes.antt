@@ -1,6 +1,6 @@
 -- Lists of bytes.
 use Rattle.std.specs.Prelude.{◌≡◌, ℕ, ◌<◌, List, [], ◌∷◌, length, bit_xor}
-use Rattle.std.specs.List.{AllByRecursion as All}
+use Rattle.std.specs.List.{AllByRecursion}
 
 -- a number of eight bits
 abbrev pub Byte : ℕ → Type 0
@@ -8,7 +8,7 @@ Byte x = x < 256
 
 -- each element is a byte
 abbrev pub Bytes : List ℕ → Type 0
-Bytes xs = All Byte xs
+Bytes xs = AllByRecursion Byte xs
 
 -- so many bytes
 abbrev pub Block : ℕ → List ℕ → Type 0

@@ -4,7 +4,7 @@ use native.Mathlib.Nat.{div-eq_of_lt, sub_self}
 use lib.Arith.{digits_lt}
 use lib.Bits.{bit_or, or_shifted}
 use lib.Pow.{split, high, low}
-use Rattle.std.specs.List.{range_with_len, AllByRecursion as All}
+use Rattle.std.specs.List.{range_with_len, AllByRecursion}
 use Rattle.std.proofs.lemmas.List.FromFn.{map-range_with_len_more, length-map-range_with_len, get_or-map-range_with_len}
 use Rattle.std.proofs.ByRecursion.{All-drop, All-get_or}
 use Rattle.std.proofs.lemmas.List.{take-append-drop, take_more, ext_get_or}
@@ -44,7 +44,7 @@ pub number_append : (w : ℕ) (xs ys : List ℕ) → number w (xs ++ ys) ≡ num
 unfolding number
 number_append w xs ys = folded_append (λ n d. n * 2 ^ w + d) 0 xs ys ∙ from w (number w xs) ys
 
-pub number_lt : (w : ℕ) (xs : List ℕ) → All (λ x. x < 2 ^ w) xs → number w xs < 2 ^ (w * length xs)
+pub number_lt : (w : ℕ) (xs : List ℕ) → AllByRecursion (λ x. x < 2 ^ w) xs → number w xs < 2 ^ (w * length xs)
 unfolding number
 number_lt w [] h = let e : 2 ^ (w * 0) ≡ 1 = ap (λ n. 2 ^ n) (mul-zero w) in omega arith
 number_lt w (x ∷ xs) h =
@@ -54,7 +54,7 @@ number_lt w (x ∷ xs) h =
     omega (arith, pow_digits w (length xs))
 
 -- the digit at a place of a number
-pub digit : (w : ℕ) (xs : List ℕ) (i : ℕ) → All (λ x. x < 2 ^ w) xs → i < length xs →
+pub digit : (w : ℕ) (xs : List ℕ) (i : ℕ) → AllByRecursion (λ x. x < 2 ^ w) xs → i < length xs →
     number w xs / 2 ^ (w * (length xs - 1 - i)) % 2 ^ w ≡ get_or xs i 0
 digit w xs i h l =
     let ys : List ℕ = take (i + 1) xs in
@@ -74,15 +74,15 @@ pub get_or_groups : (w n x i : ℕ) → i < n → get_or (groups w n x) i 0 ≡ 
 unfolding groups
 get_or_groups w n x i h = get_or-map-range_with_len (λ i. x / 2 ^ (w * (n - 1 - i)) % 2 ^ w) 0 n i i 0 h (omega arith)
 
-pub groups_lt : (w n x : ℕ) → All (λ d. d < 2 ^ w) (groups w n x)
+pub groups_lt : (w n x : ℕ) → AllByRecursion (λ d. d < 2 ^ w) (groups w n x)
 unfolding groups
 groups_lt w n x = each (range_with_len 0 n)
   where
-    each : (is : List ℕ) → All (λ d. d < 2 ^ w) (map (λ i. x / 2 ^ (w * (n - 1 - i)) % 2 ^ w) is)
+    each : (is : List ℕ) → AllByRecursion (λ d. d < 2 ^ w) (map (λ i. x / 2 ^ (w * (n - 1 - i)) % 2 ^ w) is)
     each [] = tt
     each (i ∷ is) = (mod-lt (x / 2 ^ (w * (n - 1 - i))) (pow_pos w), each is)
 
-pub groups_number : (w : ℕ) (xs : List ℕ) (n : ℕ) → length xs ≡ n → All (λ x. x < 2 ^ w) xs → groups w n (number w xs) ≡ xs
+pub groups_number : (w : ℕ) (xs : List ℕ) (n : ℕ) → length xs ≡ n → AllByRecursion (λ x. x < 2 ^ w) xs → groups w n (number w xs) ≡ xs
 groups_number w xs n e h =
     ext_get_or 0 (groups w n (number w xs)) xs (length_groups w n (number w xs) ∙ sym e)
     (λ i l.

@@ -1,7 +1,7 @@
 -- The round keys one after the other: their number, their bounds, and one more of them.
 use Rattle.std.proofs.Common.{◌≡◌, ℕ, zero, suc, ◌+◌, ◌*◌, ◌/◌, ◌%◌, ◌^◌, ◌<◌, ◌≤◌, List, [], ◌∷◌, ◌++◌, length, drop, sym, refl, ap, ◌∙◌, ap₂, append_assoc, mod-lt, arith, lit<, length-append, drop-drop, take_at, drop_at, shr_lt}
 use borrow.Rule.Slice.PartMut.{put_mid}
-use Rattle.std.specs.List.{range_with_len, flat_map, AllByRecursion as All}
+use Rattle.std.specs.List.{range_with_len, flat_map, AllByRecursion}
 use Rattle.std.proofs.lemmas.List.{flat_map_more}
 use Rattle.std.proofs.ByRecursion.{All-append, All-weaker}
 use Rattle.des.specs.Bits.{number, groups}
@@ -44,12 +44,12 @@ joined_length g e a (suc n) = length-append (g a) (flat_map g (range_with_len (a
 pub round_keys_length : (key : List ℕ) (n : ℕ) → length (round_keys key n) ≡ 8 * n
 round_keys_length key n = joined_length (λ n. groups 6 8 (KS key n)) (λ n. length_groups 6 8 (KS key n)) 1 n
 
-joined_all : (g : ℕ → List ℕ) (Q : ℕ → Type 0) → ((n : ℕ) → All Q (g n)) → (xs : List ℕ) → All Q (flat_map g xs)
+joined_all : (g : ℕ → List ℕ) (Q : ℕ → Type 0) → ((n : ℕ) → AllByRecursion Q (g n)) → (xs : List ℕ) → AllByRecursion Q (flat_map g xs)
 joined_all g Q h [] = tt
 joined_all g Q h (x ∷ xs) = All-append Q (g x) (flat_map g xs) (h x) (joined_all g Q h xs)
 
 -- a schedule is 128 bytes, and indeed groups of six bits
-pub key_schedule_groups : (key : List ℕ) → All (λ x. x < 64) (key_schedule key)
+pub key_schedule_groups : (key : List ℕ) → AllByRecursion (λ x. x < 64) (key_schedule key)
 unfolding key_schedule
 key_schedule_groups key = joined_all (λ n. groups 6 8 (KS key n)) (λ x. x < 64) (λ n. groups_lt 6 8 (KS key n)) (range_with_len 1 16)
 

@@ -1,6 +1,6 @@
 -- The laws of the tables, each by one computed test.
 use Rattle.std.proofs.Common.{◌≡◌, ℕ, ◌+◌, ◌*◌, ◌%◌, ◌<◌, ◌≤◌, Bool, cond, T, eqb, ltb, leb, List, [], length, get_or, refl, eqb→eq, ltb→lt, leb→le}
-use Rattle.std.specs.List.{AllByRecursion as All}
+use Rattle.std.specs.List.{AllByRecursion}
 use Rattle.std.proofs.ByRecursion.{All-weaker}
 use Rattle.des.specs.Laws.{times, Permutes, expanded, Lawful}
 use Rattle.des.specs.Tables.{IP_table, IP⁻¹_table, E_table, P_table, PC_1_table, PC_2_table, left_shifts, S_tables}
@@ -30,7 +30,7 @@ rows i row h l =
       below (λ x. times x (row_of i row)) (λ x. 1) 16 (both_right (whole i row) (once i row) t),
     )
 
-choice2 : All (λ t. (0 < t) × (t ≤ 56) × (times t PC_2_table ≡ 1)) PC_2_table
+choice2 : AllByRecursion (λ t. (0 < t) × (t ≤ 56) × (times t PC_2_table ≡ 1)) PC_2_table
 unfolding PC_2_table
 choice2 =
     let p : ℕ → Bool = λ t. both (both (ltb 0 t) (leb t 56)) (eqb (times t PC_2_table) 1) in

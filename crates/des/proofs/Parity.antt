@@ -1,7 +1,7 @@
 -- The lowest bit of a byte of the key is read by no table.
 use Rattle.std.proofs.Common.{◌≡◌, ℕ, ◌+◌, ◌-◌, ◌*◌, ◌/◌, ◌%◌, ◌^◌, ◌<◌, T, ltb, List, map, length, get_or, sym, ap, ◌∙◌, arith, ltb→lt, shr-shr}
 use lib.Pow.{field, mod-mod-pow}
-use Rattle.std.specs.List.{range_with_len, flat_map, AllByRecursion as All}
+use Rattle.std.specs.List.{range_with_len, flat_map, AllByRecursion}
 use Rattle.std.proofs.ByRecursion.{All-weaker}
 use Rattle.std.proofs.lemmas.List.{get_or-map}
 use Rattle.des.specs.Bits.{bit, number, groups}
@@ -35,7 +35,7 @@ key_bit key h i j hi p hj =
 abbrev Read : ℕ → Type 0
 Read t = (0 < t % 8) × (t < 64)
 
-reads : All Read PC_1_table
+reads : AllByRecursion Read PC_1_table
 unfolding PC_1_table
 reads =
     All-weaker (λ t. T (both (ltb 0 (t % 8)) (ltb t 64))) Read

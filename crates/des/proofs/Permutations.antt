@@ -1,7 +1,7 @@
 -- A permutation after another is one by the composed table, and one by the table 1, 2, .. changes nothing.
 use Rattle.std.proofs.Common.{◌≡◌, ℕ, zero, suc, ◌+◌, ◌-◌, ◌*◌, ◌/◌, ◌%◌, ◌^◌, ◌<◌, ◌≤◌, List, [], ◌∷◌, ◌++◌, map, length, get_or, take, sym, refl, ap, ◌∙◌, ap₂, mod-lt, one-mul, arith, lit<, length-append}
 use lib.ListN.{length-map}
-use Rattle.std.specs.List.{range_with_len, flat_map, AllByRecursion as All}
+use Rattle.std.specs.List.{range_with_len, flat_map, AllByRecursion}
 use Rattle.std.proofs.lemmas.List.FromFn.{length-map-range_with_len, get_or-map-range_with_len}
 use Rattle.std.proofs.lemmas.List.{map_more, map-append, get_or-map, ext_get_or, take_more, flat_map_more}
 use Rattle.des.specs.Bits.{bit, number, groups, permuted}
@@ -11,7 +11,7 @@ pub bit_lt : (w x t : ℕ) → bit w x t < 2
 unfolding bit
 bit_lt w x t = mod-lt (x / 2 ^ (w - t)) (lit< tt)
 
-bits_lt : (w x : ℕ) (table : List ℕ) → All (λ b. b < 2) (map (bit w x) table)
+bits_lt : (w x : ℕ) (table : List ℕ) → AllByRecursion (λ b. b < 2) (map (bit w x) table)
 bits_lt w x [] = tt
 bits_lt w x (t ∷ table) = (bit_lt w x t, bits_lt w x table)
 
@@ -61,7 +61,7 @@ bit_permuted w table x t p h =
     let e : length table - t ≡ 1 * (length bits - 1 - (t - 1)) = omega arith in
     ap (λ k. number 1 bits / 2 ^ k % 2) e ∙ digit 1 bits (t - 1) (bits_lt w x table) (omega arith) ∙ get_or-map (bit w x) table (t - 1) 0 0 (omega arith)
 
-map_same : (f g : ℕ → ℕ) (Q : ℕ → Type 0) → ((t : ℕ) → Q t → f t ≡ g t) → (xs : List ℕ) → All Q xs → map f xs ≡ map g xs
+map_same : (f g : ℕ → ℕ) (Q : ℕ → Type 0) → ((t : ℕ) → Q t → f t ≡ g t) → (xs : List ℕ) → AllByRecursion Q xs → map f xs ≡ map g xs
 map_same f g Q h [] a = refl
 map_same f g Q h (x ∷ xs) a = ap₂ {C = List ℕ} ◌∷◌ (h x a.0) (map_same f g Q h xs a.1)
 
@@ -70,11 +70,11 @@ map_map f g [] = refl
 map_map f g (x ∷ xs) = ap {B = List ℕ} (◌∷◌ (f (g x))) (map_map f g xs)
 
 -- two numbers that agree in the bits that a table names are permuted alike
-pub permuted_same : (w : ℕ) (table : List ℕ) (x y : ℕ) (Q : ℕ → Type 0) → ((t : ℕ) → Q t → bit w x t ≡ bit w y t) → All Q table → permuted w table x ≡ permuted w table y
+pub permuted_same : (w : ℕ) (table : List ℕ) (x y : ℕ) (Q : ℕ → Type 0) → ((t : ℕ) → Q t → bit w x t ≡ bit w y t) → AllByRecursion Q table → permuted w table x ≡ permuted w table y
 unfolding permuted
 permuted_same w table x y Q h a = ap (number 1) (map_same (bit w x) (bit w y) Q h table a)
 
-pub permuted_permuted : (w : ℕ) (table next : List ℕ) (x : ℕ) → All (λ t. (0 < t) × (t ≤ length table)) next →
+pub permuted_permuted : (w : ℕ) (table next : List ℕ) (x : ℕ) → AllByRecursion (λ t. (0 < t) × (t ≤ length table)) next →
     permuted (length table) next (permuted w table x) ≡ permuted w (map (λ t. get_or table (t - 1) 0) next) x
 unfolding permuted
 permuted_permuted w table next x a =

@@ -1,7 +1,7 @@
 -- The row and the column of a selection table that a group of six bits stands for, and the numbers that the tables give.
 use Rattle.std.proofs.Common.{◌≡◌, ℕ, zero, suc, ◌+◌, ◌*◌, ◌/◌, ◌%◌, ◌^◌, ◌<◌, ◌≤◌, Bool, ltb, List, [], ◌∷◌, map, length, get_or, sym, ap, ◌∙◌, arith, ltb→lt}
 use lib.Bits.{bit_or, bit_xor}
-use Rattle.std.specs.List.{range_with_len, AllByRecursion as All}
+use Rattle.std.specs.List.{range_with_len, AllByRecursion}
 use Rattle.std.proofs.lemmas.List.FromFn.{length-map-range_with_len, map-range_with_len_more}
 use Rattle.des.specs.Bits.{bit, number, groups, permuted}
 use Rattle.des.specs.Cipher.{E, S}
@@ -47,7 +47,7 @@ module _ (r : ℕ) (k : List ℕ) where
   abbrev one : ℕ → ℕ
   one i = S i (bit_xor (get_or (groups 6 8 (E r)) i 0) (get_or k i 0))
 
-  ones_lt : (a n : ℕ) → a + n ≤ 8 → All (λ x. x < 2 ^ 4) (map one (range_with_len a n))
+  ones_lt : (a n : ℕ) → a + n ≤ 8 → AllByRecursion (λ x. x < 2 ^ 4) (map one (range_with_len a n))
   ones_lt a zero h = tt
   ones_lt a (suc n) h = (S_lt a (bit_xor (get_or (groups 6 8 (E r)) a 0) (get_or k a 0)) (omega arith), ones_lt (a + 1) n (omega arith))
 

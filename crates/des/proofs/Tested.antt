@@ -1,6 +1,6 @@
 -- A rule of every number below a bound, or of every entry of a table, proved by one test that antt computes.
 use Rattle.std.proofs.Common.{◌≡◌, ℕ, zero, suc, ◌+◌, ◌<◌, ◌≤◌, Bool, true, false, T, eqb, ltb, leb, List, [], ◌∷◌, sym, subst, le_of_suc-le-suc, not-suc-le-zero, arith, eqb→eq, ltb→lt, leb→le}
-use Rattle.std.specs.List.{AllByRecursion as All}
+use Rattle.std.specs.List.{AllByRecursion}
 use Rattle.std.proofs.ByRecursion.{All-weaker}
 
 abbrev pub both : Bool → Bool → Bool
@@ -39,12 +39,12 @@ abbrev pub every_of : (ℕ → Bool) → List ℕ → Bool
 every_of p [] = true
 every_of p (x ∷ xs) = both (p x) (every_of p xs)
 
-pub tested_of : (p : ℕ → Bool) (xs : List ℕ) → T (every_of p xs) → All (λ x. T (p x)) xs
+pub tested_of : (p : ℕ → Bool) (xs : List ℕ) → T (every_of p xs) → AllByRecursion (λ x. T (p x)) xs
 tested_of p [] t = tt
 tested_of p (x ∷ xs) t = (both_left (p x) (every_of p xs) t, tested_of p xs (both_right (p x) (every_of p xs) t))
 
 -- each entry names a bit of a number of w bits
-pub within : (w : ℕ) (xs : List ℕ) → T (every_of (λ t. both (ltb 0 t) (leb t w)) xs) → All (λ t. (0 < t) × (t ≤ w)) xs
+pub within : (w : ℕ) (xs : List ℕ) → T (every_of (λ t. both (ltb 0 t) (leb t w)) xs) → AllByRecursion (λ t. (0 < t) × (t ≤ w)) xs
 within w xs t =
     All-weaker (λ t. T (both (ltb 0 t) (leb t w))) (λ t. (0 < t) × (t ≤ w))
     (λ t h. (ltb→lt 0 t (both_left (ltb 0 t) (leb t w) h), leb→le t w (both_right (ltb 0 t) (leb t w) h))) xs (tested_of (λ t. both (ltb 0 t) (leb t w)) xs t)

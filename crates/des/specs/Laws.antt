@@ -1,12 +1,12 @@
 -- What is proved of the definitions.
 use Rattle.std.specs.Prelude.{◌≡◌, ℕ, ◌+◌, ◌*◌, ◌%◌, ◌^◌, ◌<◌, ◌≤◌, cond, List, [], length, sum, count_by, ◌==◌, nat_eq, slice_index, slice_index_or}
-use Rattle.std.specs.List.{AllByRecursion as All}
+use Rattle.std.specs.List.{AllByRecursion}
 use Rattle.des.specs.Cipher.{IP, IP⁻¹, enciphered, deciphered}
 use Rattle.des.specs.Tables.{IP_table, IP⁻¹_table, E_table, P_table, PC_1_table, PC_2_table, left_shifts, S_tables}
 
 -- n bytes
 abbrev pub Bytes : ℕ → List ℕ → Type 0
-Bytes n s = (length s ≡ n) × All (λ x. x < 256) s
+Bytes n s = (length s ≡ n) × AllByRecursion (λ x. x < 256) s
 
 -- under the schedule, enciphering and deciphering the block undo each other, and each gives eight bytes
 pub record Inverse (schedule block : List ℕ) : Type 0 where
@@ -41,6 +41,6 @@ pub record Lawful : Type 0 where
   -- permuted choice 1 reads each bit of the key once, but for bits 8, 16, .. 64, which it does not read
   pub choice1 : (length PC_1_table ≡ 56) × ((t : ℕ) → t < 64 → times (t + 1) PC_1_table ≡ cond ((t + 1) % 8 == 0) 0 1)
   -- permuted choice 2 reads 48 of its 56 bits
-  pub choice2 : (length PC_2_table ≡ 48) × All (λ t. (0 < t) × (t ≤ 56) × (times t PC_2_table ≡ 1)) PC_2_table
+  pub choice2 : (length PC_2_table ≡ 48) × AllByRecursion (λ t. (0 < t) × (t ≤ 56) × (times t PC_2_table ≡ 1)) PC_2_table
   -- after sixteen rounds the halves of the key are back in place
   pub shifts : (length left_shifts ≡ 16) × (sum left_shifts ≡ 28)

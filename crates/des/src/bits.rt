@@ -1,6 +1,6 @@
 // Numbers as rows of bits, the leftmost bit most significant.
 ghost use Rattle.std.specs.Prelude.{◌≡◌, ℕ, ◌+◌, ◌-◌, ◌*◌, ◌^◌, ◌<◌, ◌≤◌, length};
-ghost use Rattle.std.specs.List.{flat_map, AllByRecursion as All};
+ghost use Rattle.std.specs.List.{flat_map, AllByRecursion};
 ghost use Rattle.des.specs.Bits.{number, groups, permuted};
 
 // The number of eight bytes.
@@ -28,7 +28,7 @@ pub fn store(x: u64, width: u32, out: &mut [u8])
 
 // The bits of a number of `width` bits that a row names, put after `y`.
 fn append(y: u64, width: u32, row: &[u8], x: u64) -> u64
-    requires { (width ≤ 64) × ((All (λ t. (0 < t) × (t ≤ width)) row.now) × ((length row.now ≤ 64) × (y < 2 ^ (64 - length row.now)))) }
+    requires { (width ≤ 64) × ((AllByRecursion (λ t. (0 < t) × (t ≤ width)) row.now) × ((length row.now ≤ 64) × (y < 2 ^ (64 - length row.now)))) }
     ensures { result ≡ y * 2 ^ length row.now + permuted width row.now x }
 {
     let mut z = y;
@@ -40,7 +40,7 @@ fn append(y: u64, width: u32, row: &[u8], x: u64) -> u64
 
 // The bits of a number of `width` bits that a table names, row by row.
 pub fn permute<const N: usize>(width: u32, table: &[[u8; N]], x: u64) -> u64
-    requires { (width ≤ 64) × ((All (All (λ t. (0 < t) × (t ≤ width))) table.now) × (length (flat_map (λ row. row) table.now) ≤ 64)) }
+    requires { (width ≤ 64) × ((AllByRecursion (AllByRecursion (λ t. (0 < t) × (t ≤ width))) table.now) × (length (flat_map (λ row. row) table.now) ≤ 64)) }
     ensures { result ≡ permuted width (flat_map (λ row. row) table.now) x }
 {
     let mut y = 0;

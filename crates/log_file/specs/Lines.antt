@@ -1,6 +1,6 @@
 -- What the lines of a log keep among them.
 use Rattle.std.specs.Prelude.{◌≡◌, ℕ, Bool, true, false, ◌&&◌, List, [], ◌∷◌, Some, None, Option, ◌==◌, nat_le}
-use Rattle.std.specs.List.{AllByRecursion as All}
+use Rattle.std.specs.List.{AllByRecursion}
 use Rattle.word.specs.declared.moment.Moment.{Moment}
 use Rattle.word.specs.declared.parity.Parity.{Parity}
 use Rattle.word.specs.declared.parity.Parity.TheVariants.{Even, Odd}
@@ -36,12 +36,12 @@ goes_with (Some Encrypted) Encrypted = true
 -- no two lines load a word of the same service and parity
 abbrev pub Apart : List LogLine → Type 0
 Apart [] = Unit {0}
-Apart (l ∷ ls) = All (λ m. is_for m.service.number m.parity l ≡ false) ls × Apart ls
+Apart (l ∷ ls) = AllByRecursion (λ m. is_for m.service.number m.parity l ≡ false) ls × Apart ls
 
 -- the lines of a log that is read up to a last moment, or whole
 pub record Sound (last : Option Moment) (kind : Option Kind) (lines : List LogLine) : Type 0 where
-  pub counting : All (λ l. counted last l.moment ≡ true) lines
-  pub kinds : All (λ l. Some l.kind ≡ kind) lines
+  pub counting : AllByRecursion (λ l. counted last l.moment ≡ true) lines
+  pub kinds : AllByRecursion (λ l. Some l.kind ≡ kind) lines
   -- only a last moment says which of two words counts
   pub apart : last ≡ None → Apart lines
 

@@ -1,6 +1,6 @@
 // A log as a whole.
 ghost use Rattle.std.specs.Prelude.{◌≡◌, ◌<◌, true, false, [], ◌∷◌, ◌++◌, is_some, IfSome, IfOk, IfErr, if◌then◌else◌, Some, None, vec_len, OnOk, slice_index_or};
-ghost use Rattle.std.specs.List.{AllByRecursion as All};
+ghost use Rattle.std.specs.List.{AllByRecursion};
 ghost use Rattle.log_file.specs.Lines.{counted, is_for, goes_with, misfit_cause, Sound};
 
 use crate::faults::{Cause, LogFault};
@@ -71,7 +71,7 @@ impl Reading {
     fn add(&mut self, line: LogLine) -> Result<(), LogFault>
         requires sound { Sound self.old.at self.old.kind self.old.lines.items }
         requires kind { goes_with self.old.kind line.kind ≡ true }
-        requires apart { self.old.at ≡ None → All (λ m. is_for line.service.number line.parity m ≡ false) self.old.lines.items }
+        requires apart { self.old.at ≡ None → AllByRecursion (λ m. is_for line.service.number line.parity m ≡ false) self.old.lines.items }
         ensures kept { OnOk result (self.new.lines.items ≡ self.old.lines.items ++ (if counted self.old.at line.moment then line ∷ [] else [])) }
         ensures sound { Sound self.old.at self.new.kind self.new.lines.items }
         ensures same { self.new.at ≡ self.old.at }
@@ -94,7 +94,7 @@ impl Reading {
     // What keeps the line from going with those before it.
     fn objection(&self, line: &LogLine) -> Option<Cause>
         ensures kind { result ≡ None → goes_with self.now.kind line.now.kind ≡ true }
-        ensures apart { result ≡ None → self.now.at ≡ None → All (λ m. is_for line.now.service.number line.now.parity m ≡ false) self.now.lines.items }
+        ensures apart { result ≡ None → self.now.at ≡ None → AllByRecursion (λ m. is_for line.now.service.number line.now.parity m ≡ false) self.now.lines.items }
     {
         if !goes_with(self.kind, line.kind) {
             return Some(Cause::Mixed);
@@ -106,7 +106,7 @@ impl Reading {
     }
 
     fn has(&self, service: Service, parity: Parity) -> bool
-        ensures { result ≡ false → All (λ m. is_for service.number parity m ≡ false) self.now.lines.items }
+        ensures { result ≡ false → AllByRecursion (λ m. is_for service.number parity m ≡ false) self.now.lines.items }
     {
         for line in self.lines.as_slice() {
             if line.is_for(service, parity) {

@@ -1,6 +1,6 @@
 use Rattle.std.proofs.Common.{◌≡◌, ℕ, ◌*◌, ◌%◌, ◌^◌, ◌<◌, List, length, get_or, take, sym, refl, ap, ◌∙◌, ap₂, arith}
 use lib.Bits.{bit_or}
-use Rattle.std.specs.List.{AllByRecursion as All}
+use Rattle.std.specs.List.{AllByRecursion}
 use Rattle.std.proofs.ByRecursion.{All-from_get_or, All-take}
 use Rattle.std.proofs.lemmas.List.{take_all, length-take-le}
 use Rattle.des.specs.Bits.{number}
@@ -15,7 +15,7 @@ pub loop-b-preserved : goal.loop-b-preserved
 loop-b-preserved c =
     let xs : List ℕ = c.args.bytes.now in
     let i : ℕ = c.loop-b.b-index in
-    let small : All (λ x. x < 2 ^ 8) xs = All-from_get_or (λ x. x < 256) xs 0 (λ k h. (c.type_inv.bytes k).fits) in
+    let small : AllByRecursion (λ x. x < 2 ^ 8) xs = All-from_get_or (λ x. x < 256) xs 0 (λ k h. (c.type_inv.bytes k).fits) in
     let front : List ℕ = take i xs in
     let n : length front ≡ i = length-take-le i xs (omega arith) in
     ap₂ (λ x b. bit_or (x * 256 % 2 ^ 64) b) c.loop-b.invariant c.from.ensures

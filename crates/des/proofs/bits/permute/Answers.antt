@@ -1,5 +1,5 @@
 use Rattle.std.proofs.Common.{◌≡◌, ℕ, ◌+◌, ◌-◌, ◌^◌, ◌<◌, ◌≤◌, List, [], length, get_or, take, refl, ap, ◌∙◌, lt_of_lt_of_le, arith, pow_mono}
-use Rattle.std.specs.List.{AllByRecursion as All}
+use Rattle.std.specs.List.{AllByRecursion}
 use Rattle.std.proofs.ByRecursion.{All-get_or}
 use Rattle.std.proofs.lemmas.List.{get_or_read, take_all}
 use Rattle.des.specs.Bits.{number, permuted}
@@ -20,7 +20,7 @@ append-y-requires g c =
     let front : List ℕ = rows (take i table) in
     let fits : length front + length (get_or table i []) ≤ 64 = omega (arith, rows_le table i c.loop-row-test.true, c.requires.1.1) in
     let len : length row ≡ length (get_or table i []) = ap length is in
-    let named : All (λ t. (0 < t) × (t ≤ w)) (get_or table i []) = All-get_or (All (λ t. (0 < t) × (t ≤ w))) table i [] c.loop-row-test.true c.requires.1.0 in
+    let named : AllByRecursion (λ t. (0 < t) × (t ≤ w)) (get_or table i []) = All-get_or (AllByRecursion (λ t. (0 < t) × (t ≤ w))) table i [] c.loop-row-test.true c.requires.1.0 in
     let room : length front ≤ 64 - length row = omega arith in
     let y-lt : c.loop-row.y < 2 ^ (64 - length row) = rw c.loop-row.invariant (lt_of_lt_of_le (permuted_lt w front c.args.x) (pow_mono room)) in
     (c.requires.0, (rw is named, (omega arith, y-lt)))
