@@ -1,5 +1,5 @@
 -- What the next of a service is once it took words at further moments, for the shelves on which that hangs on the moments alone.
-use Rattle.std.specs.Prelude.{ℕ, max, cond, ◌&&◌, List, [], ◌∷◌, is_ok, Some, None, Option, Result, IfSome, ◌==◌, ◌≡◌}
+use Rattle.std.specs.Prelude.{◌≡◌, ℕ, max, cond, ◌&&◌, List, [], ◌∷◌, is_ok, Some, None, Option, Result, IfSome, ◌==◌}
 use Rattle.std.proofs.Common.{ap}
 use Rattle.shelf.specs.Paces.{PaceRow, paced}
 
