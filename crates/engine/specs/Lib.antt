@@ -1,4 +1,5 @@
 pub mod Faults
 pub mod Model
 pub mod Calls
+pub mod Onward
 pub mod Runs

@@ -1,4 +1,5 @@
 pub mod Fresh
+pub mod Onward
 pub mod Rule
 pub mod Services
 pub mod Tables

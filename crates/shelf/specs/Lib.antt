@@ -1,5 +1,6 @@
 pub mod Examined
 pub mod Meaning
+pub mod Onward
 pub mod Paces
 pub mod PacingRule
 pub mod Refusals

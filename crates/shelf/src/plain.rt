@@ -1,5 +1,5 @@
 // A shelf that is a table and takes a word at any moment.
-ghost use Rattle.std.specs.Prelude.{◌≡◌, ℕ, None};
+ghost use Rattle.std.specs.Prelude.{◌≡◌, ℕ, Some, None};
 ghost use Rattle.word.specs.declared.parity.Parity.{Parity};
 ghost use Rattle.shelf.specs.Rows.{plain_meaning};
 ghost use Rattle.std.proofs.Common.{rules};
@@ -42,7 +42,11 @@ impl Shelf for PlainShelf {
 
     ghost next = { λ s. (plain_meaning s).next };
 
+    ghost next_after = { λ s. Some (λ k moments. 0) };
+
     ghost low = { Prim.search rules };
+
+    ghost present = { Prim.search rules };
 
     fn put(
         &mut self,

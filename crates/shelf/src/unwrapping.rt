@@ -31,7 +31,11 @@ impl<S: Shelf> Shelf for Unwrapping<S> {
 
     ghost next = { λ s. (unwrapping_meaning S.Shelf s).next };
 
+    ghost next_after = { λ s. S.Shelf.next_after s.below };
+
     ghost low = { Prim.search rules };
+
+    ghost present = { λ s. S.Shelf.present s.below };
 
     fn put(
         &mut self,

@@ -24,6 +24,7 @@ fn numbered(number: u8) -> Service
 pub(crate) fn wipe_all<S: Shelf>(shelf: &mut S)
     ensures held { (k : ℕ) (q : Parity) → S.Shelf.held shelf.new k q ≡ (if nat_lt k 32 then None else S.Shelf.held shelf.old k q) }
     ensures next { S.Shelf.next shelf.new ≡ S.Shelf.next shelf.old }
+    ensures later { S.Shelf.next_after shelf.new ≡ S.Shelf.next_after shelf.old }
     ensures reads { S.Shelf.reads shelf.new ≡ S.Shelf.reads shelf.old }
 {
     for number in 0..32 {
@@ -36,6 +37,7 @@ impl<S: Shelf> Desk<S> {
     pub(crate) fn new(mut shelf: S) -> Desk<S>
         ensures held { (k : ℕ) (q : Parity) → S.Shelf.held result.shelf k q ≡ (if nat_lt k 32 then None else S.Shelf.held shelf k q) }
         ensures next { S.Shelf.next result.shelf ≡ S.Shelf.next shelf }
+        ensures later { S.Shelf.next_after result.shelf ≡ S.Shelf.next_after shelf }
         ensures reads { S.Shelf.reads result.shelf ≡ S.Shelf.reads shelf }
         ensures slots { (k : ℕ) → slots_of result k ≡ Shut }
         ensures components { pairs_of result.components ≡ [] }
@@ -53,6 +55,7 @@ impl<S: Shelf> Desk<S> {
     pub(crate) fn shut(&mut self, service: Service)
         ensures held { (k : ℕ) (q : Parity) → S.Shelf.held self.new.shelf k q ≡ (if nat_eq k service.number then None else S.Shelf.held self.old.shelf k q) }
         ensures next { S.Shelf.next self.new.shelf ≡ S.Shelf.next self.old.shelf }
+        ensures later { S.Shelf.next_after self.new.shelf ≡ S.Shelf.next_after self.old.shelf }
         ensures reads { S.Shelf.reads self.new.shelf ≡ S.Shelf.reads self.old.shelf }
         ensures slots { (k : ℕ) → slots_of self.new k ≡ (if nat_eq k service.number then Shut else slots_of self.old k) }
         ensures components { pairs_of self.new.components ≡ filter (λ c. not (c.1 == service.number)) (pairs_of self.old.components) }

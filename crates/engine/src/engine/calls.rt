@@ -2,9 +2,11 @@
 ghost use Rattle.std.specs.Prelude.{◌≡◌, true, false, ◌&&◌, List, [], ◌∷◌, Ok, MatchOption, ◌==◌};
 ghost use Rattle.batch.specs.declared.plan.Direction.TheVariants.{Scramble, Descramble};
 ghost use Rattle.shelf.specs.Examined.{examined};
+ghost use Rattle.shelf.specs.Onward.{after_put};
 ghost use Rattle.shelf.specs.Shelves.{meaning_of};
 ghost use Rattle.engine.specs.Calls.{Makes, Opens, Closes, Joins, Leaves, Loads, Picks, Batches};
 ghost use Rattle.engine.specs.Model.{Given, is_open, slots_of, model_of, given_of};
+ghost use Rattle.engine.specs.Onward.{onward_of};
 ghost use Rattle.engine.specs.Runs.{Call, opens, closes, joins, leaves, loads, picks, scrambles, descrambles, Run};
 
 use crate::desk::{Desk, Slot};
@@ -20,13 +22,15 @@ impl<C: Cipher, T: TailRule, S: Shelf> Engine<C, T, S> {
     /// An engine over a shelf, all of which it wipes, with no service open.
     pub fn make(cipher: C, tail: T, iv: [u8; 16], shelf: S, tag: u16) -> Engine<C, T, S>
         ensures makes { Makes (given_of C.Cipher T.TailRule S.Shelf cipher tail iv shelf tag) (model_of C.Cipher T.TailRule S.Shelf result) }
+        ensures later { onward_of S.Shelf result ≡ S.Shelf.next_after shelf }
         ensures runs { examined (meaning_of S.Shelf shelf) ≡ Ok tt → Run (model_of C.Cipher T.TailRule S.Shelf) (given_of C.Cipher T.TailRule S.Shelf cipher tail iv shelf tag) [] result }
     {
         Engine::wiped(cipher, tail, iv, shelf, tag)
     }
 
     fn wiped(cipher: C, tail: T, iv: [u8; 16], shelf: S, tag: u16) -> Engine<C, T, S>
-        ensures { Makes (given_of C.Cipher T.TailRule S.Shelf cipher tail iv shelf tag) (model_of C.Cipher T.TailRule S.Shelf result) }
+        ensures makes { Makes (given_of C.Cipher T.TailRule S.Shelf cipher tail iv shelf tag) (model_of C.Cipher T.TailRule S.Shelf result) }
+        ensures later { onward_of S.Shelf result ≡ S.Shelf.next_after shelf }
     {
         all_bytes(&iv);
         Engine {
@@ -39,13 +43,15 @@ impl<C: Cipher, T: TailRule, S: Shelf> Engine<C, T, S> {
     /// Opens a service. Its grant closes it again.
     pub fn open(&mut self, service: u8) -> Result<Grant, EngineFault>
         ensures does { Opens (model_of C.Cipher T.TailRule S.Shelf self.old) service result (model_of C.Cipher T.TailRule S.Shelf self.new) }
+        ensures later { onward_of S.Shelf self.new ≡ onward_of S.Shelf self.old }
         ensures runs { (given : Given) (calls : List Call) → Run (model_of C.Cipher T.TailRule S.Shelf) given calls self.old → Run (model_of C.Cipher T.TailRule S.Shelf) given (opens service result ∷ calls) self.new }
     {
         self.try_open(service)
     }
 
     fn try_open(&mut self, service: u8) -> Result<Grant, EngineFault>
-        ensures { Opens (model_of C.Cipher T.TailRule S.Shelf self.old) service result (model_of C.Cipher T.TailRule S.Shelf self.new) }
+        ensures does { Opens (model_of C.Cipher T.TailRule S.Shelf self.old) service result (model_of C.Cipher T.TailRule S.Shelf self.new) }
+        ensures later { onward_of S.Shelf self.new ≡ onward_of S.Shelf self.old }
     {
         let Some(shut) = Service::new(service) else {
             return Err(EngineFault::NoService);
@@ -63,13 +69,15 @@ impl<C: Cipher, T: TailRule, S: Shelf> Engine<C, T, S> {
     /// Closes the service of a grant: its words, its components and its parity go. A refusal hands the grant back.
     pub fn close(&mut self, grant: Grant) -> Result<(), Unclosed>
         ensures does { Closes (model_of C.Cipher T.TailRule S.Shelf self.old) grant result (model_of C.Cipher T.TailRule S.Shelf self.new) }
+        ensures later { onward_of S.Shelf self.new ≡ onward_of S.Shelf self.old }
         ensures runs { (given : Given) (calls : List Call) → Run (model_of C.Cipher T.TailRule S.Shelf) given calls self.old → Run (model_of C.Cipher T.TailRule S.Shelf) given (closes grant result ∷ calls) self.new }
     {
         self.try_close(grant)
     }
 
     fn try_close(&mut self, grant: Grant) -> Result<(), Unclosed>
-        ensures { Closes (model_of C.Cipher T.TailRule S.Shelf self.old) grant result (model_of C.Cipher T.TailRule S.Shelf self.new) }
+        ensures does { Closes (model_of C.Cipher T.TailRule S.Shelf self.old) grant result (model_of C.Cipher T.TailRule S.Shelf self.new) }
+        ensures later { onward_of S.Shelf self.new ≡ onward_of S.Shelf self.old }
     {
         let Some(service) = self.granted(&grant) else {
             return Err(Unclosed {
@@ -98,13 +106,15 @@ impl<C: Cipher, T: TailRule, S: Shelf> Engine<C, T, S> {
     /// Joins a PID to an open service.
     pub fn join(&mut self, service: u8, pid: u16) -> Result<(), EngineFault>
         ensures does { Joins (model_of C.Cipher T.TailRule S.Shelf self.old) service pid result (model_of C.Cipher T.TailRule S.Shelf self.new) }
+        ensures later { onward_of S.Shelf self.new ≡ onward_of S.Shelf self.old }
         ensures runs { (given : Given) (calls : List Call) → Run (model_of C.Cipher T.TailRule S.Shelf) given calls self.old → Run (model_of C.Cipher T.TailRule S.Shelf) given (joins service pid result ∷ calls) self.new }
     {
         self.try_join(service, pid)
     }
 
     fn try_join(&mut self, service: u8, pid: u16) -> Result<(), EngineFault>
-        ensures { Joins (model_of C.Cipher T.TailRule S.Shelf self.old) service pid result (model_of C.Cipher T.TailRule S.Shelf self.new) }
+        ensures does { Joins (model_of C.Cipher T.TailRule S.Shelf self.old) service pid result (model_of C.Cipher T.TailRule S.Shelf self.new) }
+        ensures later { onward_of S.Shelf self.new ≡ onward_of S.Shelf self.old }
     {
         let open = self.desk.open_service(service)?;
         self.desk.components.add(pid, open)?;
@@ -114,13 +124,15 @@ impl<C: Cipher, T: TailRule, S: Shelf> Engine<C, T, S> {
     /// Takes a PID from its service.
     pub fn leave(&mut self, pid: u16) -> Result<(), EngineFault>
         ensures does { Leaves (model_of C.Cipher T.TailRule S.Shelf self.old) pid result (model_of C.Cipher T.TailRule S.Shelf self.new) }
+        ensures later { onward_of S.Shelf self.new ≡ onward_of S.Shelf self.old }
         ensures runs { (given : Given) (calls : List Call) → Run (model_of C.Cipher T.TailRule S.Shelf) given calls self.old → Run (model_of C.Cipher T.TailRule S.Shelf) given (leaves pid result ∷ calls) self.new }
     {
         self.try_leave(pid)
     }
 
     fn try_leave(&mut self, pid: u16) -> Result<(), EngineFault>
-        ensures { Leaves (model_of C.Cipher T.TailRule S.Shelf self.old) pid result (model_of C.Cipher T.TailRule S.Shelf self.new) }
+        ensures does { Leaves (model_of C.Cipher T.TailRule S.Shelf self.old) pid result (model_of C.Cipher T.TailRule S.Shelf self.new) }
+        ensures later { onward_of S.Shelf self.new ≡ onward_of S.Shelf self.old }
     {
         if !self.desk.components.remove(pid) {
             return Err(EngineFault::NotJoined);
@@ -137,6 +149,7 @@ impl<C: Cipher, T: TailRule, S: Shelf> Engine<C, T, S> {
         moment: u32,
     ) -> Result<(), EngineFault>
         ensures does { Loads (model_of C.Cipher T.TailRule S.Shelf self.old) service parity entry.now moment result (model_of C.Cipher T.TailRule S.Shelf self.new) }
+        ensures later { onward_of S.Shelf self.new ≡ after_put result service moment (onward_of S.Shelf self.old) }
         ensures runs { (given : Given) (calls : List Call) → Run (model_of C.Cipher T.TailRule S.Shelf) given calls self.old → Run (model_of C.Cipher T.TailRule S.Shelf) given (loads service parity entry.now moment result ∷ calls) self.new }
     {
         self.try_load(service, parity, entry, moment)
@@ -149,7 +162,8 @@ impl<C: Cipher, T: TailRule, S: Shelf> Engine<C, T, S> {
         entry: &[u8; 16],
         moment: u32,
     ) -> Result<(), EngineFault>
-        ensures { Loads (model_of C.Cipher T.TailRule S.Shelf self.old) service parity entry.now moment result (model_of C.Cipher T.TailRule S.Shelf self.new) }
+        ensures does { Loads (model_of C.Cipher T.TailRule S.Shelf self.old) service parity entry.now moment result (model_of C.Cipher T.TailRule S.Shelf self.new) }
+        ensures later { onward_of S.Shelf self.new ≡ after_put result service moment (onward_of S.Shelf self.old) }
     {
         let target = self.desk.open_service(service)?;
         let Some(allowed) = Moment::new(moment) else {
@@ -162,13 +176,15 @@ impl<C: Cipher, T: TailRule, S: Shelf> Engine<C, T, S> {
     /// Has an open service scramble under a parity from now on, of which the shelf holds its word.
     pub fn pick(&mut self, service: u8, parity: Parity) -> Result<(), EngineFault>
         ensures does { Picks (model_of C.Cipher T.TailRule S.Shelf self.old) service parity result (model_of C.Cipher T.TailRule S.Shelf self.new) }
+        ensures later { onward_of S.Shelf self.new ≡ onward_of S.Shelf self.old }
         ensures runs { (given : Given) (calls : List Call) → Run (model_of C.Cipher T.TailRule S.Shelf) given calls self.old → Run (model_of C.Cipher T.TailRule S.Shelf) given (picks service parity result ∷ calls) self.new }
     {
         self.try_pick(service, parity)
     }
 
     fn try_pick(&mut self, service: u8, parity: Parity) -> Result<(), EngineFault>
-        ensures { Picks (model_of C.Cipher T.TailRule S.Shelf self.old) service parity result (model_of C.Cipher T.TailRule S.Shelf self.new) }
+        ensures does { Picks (model_of C.Cipher T.TailRule S.Shelf self.old) service parity result (model_of C.Cipher T.TailRule S.Shelf self.new) }
+        ensures later { onward_of S.Shelf self.new ≡ onward_of S.Shelf self.old }
     {
         let picked = self.desk.open_service(service)?;
         if self.desk.shelf.word(picked, parity).is_none() {

@@ -1,6 +1,7 @@
 // The methods of a pacing shelf, apart from its type: their contracts cite definitions that name it.
 ghost use Rattle.std.specs.Prelude.{◌≡◌, ℕ, ◌≤◌, ◌&&◌, is_ok, if◌then◌else◌, Ok, MatchResult, ◌==◌};
 ghost use Rattle.shelf.specs.Meaning.{Puts, Wipes};
+ghost use Rattle.shelf.specs.Onward.{after_put, paced_onward, paced_present};
 ghost use Rattle.shelf.specs.Paces.{paced, rested};
 ghost use Rattle.shelf.specs.PacingRule.{PacingRule, PacingExamples};
 ghost use Rattle.shelf.specs.Shelves.{meaning_of, row_of, pace_at, pacing_meaning};
@@ -56,7 +57,11 @@ impl<S: Shelf> Shelf for Pacing<S> {
 
     ghost next = { λ s. (pacing_meaning S.Shelf s).next };
 
+    ghost next_after = { λ s. paced_onward (pace_at s) (S.Shelf.next_after s.below) };
+
     ghost low = { first_of (Prim.search rules, Prim.grind (arith, Self.row.coded.inj)) };
+
+    ghost present = { λ s. paced_present (pace_at s) (S.Shelf.next_after s.below) (S.Shelf.next s.below) (S.Shelf.present s.below) };
 
     fn put(
         &mut self,
@@ -67,6 +72,7 @@ impl<S: Shelf> Shelf for Pacing<S> {
     ) -> Result<(), ShelfFault>
         ensures puts { Puts (pacing_meaning S.Shelf self.old) service.number parity entry.now moment.seconds result (pacing_meaning S.Shelf self.new) }
         ensures paces { (k : ℕ) → pace_at self.new k ≡ (if is_ok result && k == service.number then paced (pace_at self.old k) moment.seconds else pace_at self.old k) }
+        ensures later { paced_onward (pace_at self.new) (S.Shelf.next_after self.new.below) ≡ after_put result service.number moment.seconds (paced_onward (pace_at self.old) (S.Shelf.next_after self.old.below)) }
         ensures below { MatchResult result (λ _. Puts (meaning_of S.Shelf self.old.below) service.number parity entry.now moment.seconds (Ok tt) (meaning_of S.Shelf self.new.below)) (λ _. self.new.below ≡ self.old.below) }
     {
         let next = self.next_load(service);
@@ -94,6 +100,7 @@ impl<S: Shelf> Shelf for Pacing<S> {
     fn wipe(&mut self, service: Service)
         ensures wipes { Wipes (pacing_meaning S.Shelf self.old) service.number (pacing_meaning S.Shelf self.new) }
         ensures paces { self.new.paces ≡ self.old.paces }
+        ensures later { paced_onward (pace_at self.new) (S.Shelf.next_after self.new.below) ≡ paced_onward (pace_at self.old) (S.Shelf.next_after self.old.below) }
         ensures below { Wipes (meaning_of S.Shelf self.old.below) service.number (meaning_of S.Shelf self.new.below) }
     {
         self.below.wipe(service);

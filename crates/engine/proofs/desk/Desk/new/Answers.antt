@@ -9,6 +9,7 @@ returns g c =
     record {
       held = c.wipe_all.ensures.held;
       next = c.wipe_all.ensures.next;
+      later = c.wipe_all.ensures.later;
       reads = c.wipe_all.ensures.reads;
       slots = λ k. at_replicate (λ (s : Slot). s) 32 k Shut Shut refl;
       components = ap (map (λ c. (c.pid, c.service.number))) c.new.ensures.rows;

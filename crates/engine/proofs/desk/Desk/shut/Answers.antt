@@ -8,6 +8,7 @@ returns g c =
     record {
       held = search rules;
       next = search rules;
+      later = search rules;
       reads = search rules;
       slots = search rules;
       components = without_service_lem c.args.self.now.components _ c.args.service.number (ap components_of c.set_slot.ensures.components ∙ c.remove_service.ensures.rows);

@@ -7,4 +7,5 @@ invariant-loop-number g l =
     let s = g.S.Shelf in
     ((k : ℕ) (q : Parity) → s.held l.shelf k q ≡ cond (ltb k l.number) None (s.held l.initial.shelf k q))
     × (s.next l.shelf ≡ s.next l.initial.shelf)
+    × (s.next_after l.shelf ≡ s.next_after l.initial.shelf)
     × (s.reads l.shelf ≡ s.reads l.initial.shelf)

@@ -2,4 +2,4 @@ use Rattle.engine.specs.Runs.{made}
 use Rattle.engine.proofs.engine.Engine.make.Goals as goal
 
 pub returns : goal.returns
-returns g c = record { makes = c.wiped.ensures; runs = λ fresh. made c.wiped.ensures fresh }
+returns g c = record { makes = c.wiped.ensures.makes; later = c.wiped.ensures.later; runs = λ fresh. made c.wiped.ensures.makes fresh }

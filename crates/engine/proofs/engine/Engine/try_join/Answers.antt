@@ -12,13 +12,16 @@ returns-in_err-add g c =
     let e : r ≡ Err (join_fault c.in_err-add.field-0.0) = search rules in
     let a = added c.args.self.now.desk.components c.add.new.self c.args.service c.args.pid c.in_ok-open.open c.add.result r c.in_ok-open.ensures.0 (e ∙ ap lifted (sym c.in_err-add.was)) c.add.ensures.answer c.add.ensures.rows c.add.ensures.joined in
     record {
-      answer = a.answer ∙ unless_none (closed (slots_of c.args.self.now.desk) c.args.service) _ c.in_ok-open.ensures.1;
-      components = a.components;
-      joined = a.joined_to;
-      slots = refl;
-      shelf = refl;
-      profile = refl;
-      tag = refl;
+      does = record {
+        answer = a.answer ∙ unless_none (closed (slots_of c.args.self.now.desk) c.args.service) _ c.in_ok-open.ensures.1;
+        components = a.components;
+        joined = a.joined_to;
+        slots = refl;
+        shelf = refl;
+        profile = refl;
+        tag = refl;
+      };
+      later = refl;
     }
 
 pub returns : goal.returns
@@ -26,11 +29,14 @@ returns g c =
     let r : Answer = Ok tt in
     let a = added c.args.self.now.desk.components c.add.new.self c.args.service c.args.pid c.in_ok-open.open c.add.result r c.in_ok-open.ensures.0 (ap lifted (sym c.in_ok-add.was)) c.add.ensures.answer c.add.ensures.rows c.add.ensures.joined in
     record {
-      answer = a.answer ∙ unless_none (closed (slots_of c.args.self.now.desk) c.args.service) _ c.in_ok-open.ensures.1;
-      components = a.components;
-      joined = a.joined_to;
-      slots = refl;
-      shelf = refl;
-      profile = refl;
-      tag = refl;
+      does = record {
+        answer = a.answer ∙ unless_none (closed (slots_of c.args.self.now.desk) c.args.service) _ c.in_ok-open.ensures.1;
+        components = a.components;
+        joined = a.joined_to;
+        slots = refl;
+        shelf = refl;
+        profile = refl;
+        tag = refl;
+      };
+      later = refl;
     }

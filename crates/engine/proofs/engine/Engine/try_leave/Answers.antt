@@ -10,13 +10,16 @@ returns-then-not-remove g c =
     let there : false ≡ is_some (joined c.args.self.now.desk.components c.args.pid) = sym c.if-not-remove.true ∙ c.remove.ensures.there in
     let l = left c.args.self.now.desk.components c.remove.new.self c.args.pid false there c.remove.ensures.rows c.remove.ensures.joined in
     record {
-      answer = ap (λ (b : Bool). cond {A = Answer} b (Ok tt) (Err NotJoined)) there;
-      components = l.components;
-      joined = l.joined_to;
-      slots = refl;
-      shelf = refl;
-      profile = refl;
-      tag = refl;
+      does = record {
+        answer = ap (λ (b : Bool). cond {A = Answer} b (Ok tt) (Err NotJoined)) there;
+        components = l.components;
+        joined = l.joined_to;
+        slots = refl;
+        shelf = refl;
+        profile = refl;
+        tag = refl;
+      };
+      later = refl;
     }
 
 pub returns : goal.returns
@@ -24,11 +27,14 @@ returns g c =
     let there : true ≡ is_some (joined c.args.self.now.desk.components c.args.pid) = sym c.if-not-remove.false ∙ c.remove.ensures.there in
     let l = left c.args.self.now.desk.components c.remove.new.self c.args.pid true there c.remove.ensures.rows c.remove.ensures.joined in
     record {
-      answer = ap (λ (b : Bool). cond {A = Answer} b (Ok tt) (Err NotJoined)) there;
-      components = l.components;
-      joined = l.joined_to;
-      slots = refl;
-      shelf = refl;
-      profile = refl;
-      tag = refl;
+      does = record {
+        answer = ap (λ (b : Bool). cond {A = Answer} b (Ok tt) (Err NotJoined)) there;
+        components = l.components;
+        joined = l.joined_to;
+        slots = refl;
+        shelf = refl;
+        profile = refl;
+        tag = refl;
+      };
+      later = refl;
     }

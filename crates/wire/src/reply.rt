@@ -1,0 +1,54 @@
+ghost use Rattle.std.specs.Prelude.{◌≡◌, ◌+◌, ◌/◌, ◌%◌, [], ◌∷◌, ◌++◌, length, if◌then◌else◌, OnOk};
+ghost use Rattle.wire.specs.Replies.{number_of, written};
+
+use crate::faults::ProgramFault;
+use std::alloc::AllocError;
+
+/// What is answered to a field.
+#[derive(Clone, Copy)]
+pub struct Reply {
+    /// The tag of the answer.
+    pub tag: u8,
+    /// Accepted, or why the field is refused.
+    pub outcome: Result<(), ProgramFault>,
+    /// Whether the field's value, as it was left, follows.
+    pub with_value: bool,
+}
+
+impl Reply {
+    /// The refusal's number, or 0.
+    pub fn number(&self) -> u8
+        ensures { result ≡ number_of self.now.outcome }
+    {
+        match self.outcome {
+            Ok(()) => 0,
+            Err(fault) => fault.refusal().number,
+        }
+    }
+
+    // What follows the number.
+    fn body<'a>(&self, value: &'a [u8]) -> &'a [u8]
+        ensures { result.now ≡ (if self.now.with_value then value.now else []) }
+    {
+        if self.with_value { value } else { &[] }
+    }
+
+    /// Writes the answer behind what is there; `value` is the field's value as it was left.
+    pub fn write(&self, value: &[u8], out: &mut Vec<u8>) -> Result<(), AllocError>
+        ensures { OnOk result (out.new.items ≡ out.old.items ++ written self.now value.now) }
+    {
+        let body = self.body(value);
+        let [high, low] = length_bytes(body);
+        out.extend_from_slice(&[self.tag, high, low, self.number()])?;
+        out.extend_from_slice(body)?;
+        Ok(())
+    }
+}
+
+// The length of an answer with that body behind its number, in two bytes.
+fn length_bytes(body: &[u8]) -> [u8; 2]
+    ensures { result ≡ ((length body.now + 1) / 256 % 256) ∷ ((length body.now + 1) % 256) ∷ [] }
+{
+    let length = body.len() % 65536 + 1;
+    [(length / 256 % 256) as u8, (length % 256) as u8]
+}
