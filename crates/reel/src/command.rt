@@ -1,7 +1,8 @@
 // What the words of the command line ask for.
 use entry::{EntryFault, enter_word};
+use log_file::{Cause, moment_of, pids_of};
 use std::alloc::{AllocError, Global};
-use word::{Parity, Word};
+use word::{Moment, Parity, Word};
 
 #[derive(Clone, Copy)]
 pub enum Task {
@@ -25,12 +26,26 @@ pub struct Keys {
     pub pids: Vec<u16>,
 }
 
-/// A task on a stream, under one word.
+/// A log of loaded words, the file with the identifier that they are encrypted under, and up to which moment they count.
+#[derive(Drop)]
+pub struct LogRequest {
+    pub path: String,
+    pub identifier: Option<String>,
+    pub at: Option<Moment>,
+}
+
+/// Where the words come from.
+#[derive(Drop)]
+pub enum KeySource {
+    Given(Keys),
+    Logged(LogRequest),
+}
+
+/// A task on a stream.
 #[derive(Drop)]
 pub struct Command {
     pub task: Task,
     pub profile: ProfileName,
-    pub keys: Keys,
     pub input: String,
     /// Where the result goes; empty in a rehearsal.
     pub output: String,
@@ -38,11 +53,50 @@ pub struct Command {
     pub shows_packets: bool,
 }
 
+/// The path that stands for standard input or output.
+pub const STANDARD: &str = "-";
+
+impl Command {
+    /// Whether the changed stream goes to standard output.
+    pub fn writes_to_pipe(&self) -> bool {
+        self.output.as_str() == STANDARD
+    }
+}
+
+/// What was not understood.
+#[derive(Clone, Copy)]
+pub enum Mistake {
+    Task,
+    Profile,
+    Parity,
+    Pid,
+    NoLog,
+    Moment,
+    NoInput,
+    NoOutput,
+    WordTooMany,
+}
+
+impl Mistake {
+    pub fn text(self) -> &'static str {
+        match self {
+            Mistake::Task => "the first word is scramble, descramble or rehearse",
+            Mistake::Profile => "the profile is cissa, idsa or des",
+            Mistake::Parity => "the parity is even or odd",
+            Mistake::Pid => "a PID is a number, decimal or after 0x",
+            Mistake::NoLog => "the log is missing",
+            Mistake::Moment => "the moment is 0 to 4000000000 seconds, decimal",
+            Mistake::NoInput => "the stream to read is missing",
+            Mistake::NoOutput => "the file to write is missing",
+            Mistake::WordTooMany => "there is a word too many",
+        }
+    }
+}
+
 /// Why the words are no command.
-#[derive(Drop)]
+#[derive(Clone, Copy)]
 pub enum BadCommand {
-    /// What was not understood.
-    Usage(&'static str),
+    Usage(Mistake),
     Word(EntryFault),
     NoMemory,
 }
@@ -59,12 +113,42 @@ impl From<EntryFault> for BadCommand {
     }
 }
 
+// The words of a command, of which the first ones are taken.
+#[derive(Drop)]
+struct Words<'a> {
+    rest: &'a [String],
+}
+
+impl<'a> Words<'a> {
+    // The next word, or an empty one.
+    fn take(&mut self) -> &'a str {
+        match self.rest {
+            [] => "",
+            [word, rest @ ..] => {
+                self.rest = rest;
+                word.as_str()
+            }
+        }
+    }
+
+    // Takes the next word if it is this one.
+    fn takes(&mut self, name: &str) -> bool {
+        match self.rest {
+            [word, rest @ ..] if word.as_str() == name => {
+                self.rest = rest;
+                true
+            }
+            _ => false,
+        }
+    }
+}
+
 fn task_of(text: &str) -> Result<Task, BadCommand> {
     match text {
         "scramble" => Ok(Task::Scramble),
         "descramble" => Ok(Task::Descramble),
         "rehearse" => Ok(Task::Rehearse),
-        _ => Err(BadCommand::Usage("the first word is scramble, descramble or rehearse")),
+        _ => Err(BadCommand::Usage(Mistake::Task)),
     }
 }
 
@@ -73,7 +157,7 @@ fn profile_of(text: &str) -> Result<ProfileName, BadCommand> {
         "cissa" => Ok(ProfileName::Cissa),
         "idsa" => Ok(ProfileName::Idsa),
         "des" => Ok(ProfileName::Des),
-        _ => Err(BadCommand::Usage("the profile is cissa, idsa or des")),
+        _ => Err(BadCommand::Usage(Mistake::Profile)),
     }
 }
 
@@ -81,75 +165,91 @@ fn parity_of(text: &str) -> Result<Parity, BadCommand> {
     match text {
         "even" => Ok(Parity::Even),
         "odd" => Ok(Parity::Odd),
-        _ => Err(BadCommand::Usage("the parity is even or odd")),
+        _ => Err(BadCommand::Usage(Mistake::Parity)),
     }
 }
 
-// A PID in decimal, or in hexadecimal after 0x.
-fn pid_of(text: &str) -> Option<u16> {
-    match text.strip_prefix("0x") {
-        Some(digits) => u16::from_str_radix(digits, 16).ok(),
-        None => text.parse::<u16>().ok(),
+fn given_pids(heap: Global, list: &str) -> Result<Vec<u16>, BadCommand> {
+    match pids_of(heap, list) {
+        Ok(pids) => Ok(pids),
+        Err(Cause::NoMemory) => Err(BadCommand::NoMemory),
+        Err(_) => Err(BadCommand::Usage(Mistake::Pid)),
     }
 }
 
-// The PIDs of a list with commas.
-fn pids_of(heap: Global, list: &str) -> Result<Vec<u16>, BadCommand> {
-    let mut pids = Vec::new(heap);
-    for text in list.split(',') {
-        let Some(pid) = pid_of(text) else {
-            return Err(BadCommand::Usage("a PID is a number, decimal or after 0x"));
-        };
-        if pids.push(pid).is_err() {
-            return Err(BadCommand::NoMemory);
-        }
-    }
-    Ok(pids)
-}
-
-// The word at that place, or an empty one.
-fn at(words: &[String], place: usize) -> &str {
-    match words.get(place) {
-        Some(word) => word.as_str(),
-        None => "",
-    }
-}
-
-// The keys: parity, the four groups of the word, PIDs.
-fn keys_from(heap: Global, words: &[String]) -> Result<Keys, BadCommand> {
-    let parity = parity_of(at(words, 2))?;
-    let word = enter_word(at(words, 3), at(words, 4), at(words, 5), at(words, 6))?;
-    let pids = pids_of(heap, at(words, 7))?;
+// Parity, the four groups of the word, PIDs.
+fn given_keys(heap: Global, words: &mut Words<'_>) -> Result<Keys, BadCommand> {
+    let parity = parity_of(words.take())?;
+    let word = enter_word(words.take(), words.take(), words.take(), words.take())?;
+    let pids = given_pids(heap, words.take())?;
     Ok(Keys { parity, word, pids })
 }
 
-/// The command of these words, which begin after the program's name.
-pub fn parse(heap: Global, words: &[String]) -> Result<Command, BadCommand> {
-    let task = task_of(at(words, 0))?;
-    let profile = profile_of(at(words, 1))?;
-    let keys = keys_from(heap, words)?;
-    let input = String::from_str(heap, at(words, 8))?;
-    let output = String::from_str(heap, at(words, 9))?;
-    if input.is_empty() {
-        return Err(BadCommand::Usage("the stream to read is missing"));
-    }
-    let (wants_output, most) = match task {
-        Task::Rehearse => (false, 10),
-        Task::Scramble | Task::Descramble => (true, 10),
+// The log's path, and the options that follow it in either order, each once.
+fn log_request(heap: Global, words: &mut Words<'_>) -> Result<LogRequest, BadCommand> {
+    let mut request = LogRequest {
+        path: String::from_str(heap, words.take())?,
+        identifier: None,
+        at: None,
     };
-    let shows_packets = !wants_output && output.as_str() == "--packets";
-    if wants_output && output.is_empty() {
-        return Err(BadCommand::Usage("the file to write is missing"));
+    for _ in 0..2 {
+        if request.identifier.is_none() && words.takes("--identifier") {
+            request.identifier = Some(String::from_str(heap, words.take())?);
+        } else if request.at.is_none() && words.takes("--at") {
+            request.at = Some(given_moment(words.take())?);
+        }
     }
-    if words.len() > most || (!wants_output && !output.is_empty() && !shows_packets) {
-        return Err(BadCommand::Usage("there is a word too many"));
+    if request.path.is_empty() {
+        return Err(BadCommand::Usage(Mistake::NoLog));
     }
-    Ok(Command {
+    Ok(request)
+}
+
+fn given_moment(text: &str) -> Result<Moment, BadCommand> {
+    match moment_of(text) {
+        Ok(moment) => Ok(moment),
+        Err(_) => Err(BadCommand::Usage(Mistake::Moment)),
+    }
+}
+
+fn key_source(heap: Global, words: &mut Words<'_>) -> Result<KeySource, BadCommand> {
+    if words.takes("--log") {
+        return Ok(KeySource::Logged(log_request(heap, words)?));
+    }
+    Ok(KeySource::Given(given_keys(heap, words)?))
+}
+
+/// The command of these words, which begin after the program's name, and where its keys come from.
+pub fn parse(heap: Global, words: &[String]) -> Result<(Command, KeySource), BadCommand> {
+    let mut words = Words { rest: words };
+    let task = task_of(words.take())?;
+    let profile = profile_of(words.take())?;
+    let keys = key_source(heap, &mut words)?;
+    let input = String::from_str(heap, words.take())?;
+    if input.is_empty() {
+        return Err(BadCommand::Usage(Mistake::NoInput));
+    }
+    let (output, shows_packets) = match task {
+        Task::Rehearse => ("", words.takes("--packets")),
+        Task::Scramble | Task::Descramble => (given_output(&mut words)?, false),
+    };
+    if !words.rest.is_empty() {
+        return Err(BadCommand::Usage(Mistake::WordTooMany));
+    }
+    let output = String::from_str(heap, output)?;
+    let command = Command {
         task,
         profile,
-        keys,
         input,
         output,
         shows_packets,
-    })
+    };
+    Ok((command, keys))
+}
+
+fn given_output<'a>(words: &mut Words<'a>) -> Result<&'a str, BadCommand> {
+    match words.take() {
+        "" => Err(BadCommand::Usage(Mistake::NoOutput)),
+        output => Ok(output),
+    }
 }

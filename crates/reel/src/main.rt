@@ -1,14 +1,20 @@
-// Scrambles, descrambles or rehearses a transport stream file, and prints what happened.
+// Scrambles, descrambles or rehearses a transport stream, and prints what happened.
 #![tactic(auto)]
 
 mod command;
+mod element;
+mod ends;
+mod given;
+mod logged;
 mod report;
+mod services;
 mod station;
 mod stream;
 mod tally;
 
 use anyhow::anyhow;
-use command::{BadCommand, Command, ProfileName, Task};
+use command::{BadCommand, Command, KeySource, Keys, ProfileName};
+use logged::KeyRing;
 use profile::{cissa_profile, des_profile, idsa_profile};
 use std::env;
 
@@ -19,42 +25,46 @@ fn main(rt: HostRuntime) -> anyhow::Result<()> {
 fn run(rt: &HostRuntime) -> anyhow::Result<()> {
     let words: Vec<String> = env::args(rt)?.skip(1).collect(rt.alloc())?;
     match command::parse(rt.alloc(), words.as_slice()) {
-        Ok(command) => carry_out(rt, &command),
+        Ok((command, source)) => carry_out(rt, &command, source),
         Err(bad) => not_understood(rt, bad),
     }
 }
 
-fn carry_out(rt: &HostRuntime, command: &Command) -> anyhow::Result<()> {
-    match (command.task, command.profile) {
-        (Task::Rehearse, ProfileName::Cissa) => stream::rehearse(
+fn carry_out(rt: &HostRuntime, command: &Command, source: KeySource) -> anyhow::Result<()> {
+    match source {
+        KeySource::Given(keys) => with_keys(rt, command, &keys),
+        KeySource::Logged(request) => with_log(rt, command, &logged::fetch(rt, &request)?),
+    }
+}
+
+fn with_keys(rt: &HostRuntime, command: &Command, keys: &Keys) -> anyhow::Result<()> {
+    match command.profile {
+        ProfileName::Cissa => given::carry_out(rt, cissa_profile(), cissa_profile(), command, keys),
+        ProfileName::Idsa => given::carry_out(rt, idsa_profile(), idsa_profile(), command, keys),
+        ProfileName::Des => given::carry_out(rt, des_profile(), des_profile(), command, keys),
+    }
+}
+
+fn with_log(rt: &HostRuntime, command: &Command, ring: &KeyRing) -> anyhow::Result<()> {
+    match command.profile {
+        ProfileName::Cissa => logged::carry_out(
             rt,
             cissa_profile(),
             cissa_profile(),
             command,
+            ring,
         ),
-        (Task::Rehearse, ProfileName::Idsa) => stream::rehearse(
-            rt,
-            idsa_profile(),
-            idsa_profile(),
-            command,
-        ),
-        (Task::Rehearse, ProfileName::Des) => stream::rehearse(
-            rt,
-            des_profile(),
-            des_profile(),
-            command,
-        ),
-        (_, ProfileName::Cissa) => stream::convert(rt, cissa_profile(), command),
-        (_, ProfileName::Idsa) => stream::convert(rt, idsa_profile(), command),
-        (_, ProfileName::Des) => stream::convert(rt, des_profile(), command),
+        ProfileName::Idsa => logged::carry_out(rt, idsa_profile(), idsa_profile(), command, ring),
+        ProfileName::Des => logged::carry_out(rt, des_profile(), des_profile(), command, ring),
     }
 }
 
 fn not_understood(rt: &HostRuntime, bad: BadCommand) -> anyhow::Result<()> {
     match bad {
-        BadCommand::Usage(what) => {
+        BadCommand::Usage(mistake) => {
             report::print_usage(rt)?;
-            Err(anyhow!("{what}"))
+            let text = mistake.text();
+            Err(anyhow!("{text}"))
         }
         BadCommand::Word(fault) => {
             report::print_entry_refusal(rt, &fault.refusal())?;

@@ -4,20 +4,39 @@ use crate::tally::Tally;
 use batch::BatchFault;
 use engine::EngineFault;
 use fault::{Layer, Refusal};
+use log_file::LogFault;
 use std::io;
+use std::io::Write;
 use word::Parity;
+
+/// Where the words came from: one from the command line, or so many lines of a log.
+#[derive(Clone, Copy)]
+pub enum Source {
+    Given(Parity),
+    Logged(usize),
+}
 
 /// How the program is called.
 pub fn print_usage(rt: &HostRuntime) -> io::Result<()> {
-    eprintln!(rt; "reel scramble   PROFILE PARITY WORD PIDS IN OUT")?;
-    eprintln!(rt; "reel descramble PROFILE PARITY WORD PIDS IN OUT")?;
-    eprintln!(rt; "reel rehearse   PROFILE PARITY WORD PIDS IN [--packets]")?;
+    eprintln!(rt; "reel scramble   PROFILE KEYS IN OUT")?;
+    eprintln!(rt; "reel descramble PROFILE KEYS IN OUT")?;
+    eprintln!(rt; "reel rehearse   PROFILE KEYS IN [--packets]")?;
     eprintln!(rt; "  PROFILE  cissa, idsa or des")?;
+    eprintln!(rt; "  KEYS     PARITY WORD PIDS, or")?;
+    eprintln!(rt; "           --log LOG [--identifier FILE] [--at MOMENT]")?;
+    print_key_usage(rt)?;
+    eprintln!(rt; "  IN, OUT  transport stream files, or - for standard input and output;")?;
+    eprintln!(rt; "           a rehearsal writes none, and shows the scrambled packets")?;
+    eprintln!(rt; "           after --packets")
+}
+
+fn print_key_usage(rt: &HostRuntime) -> io::Result<()> {
     eprintln!(rt; "  PARITY   even or odd")?;
     eprintln!(rt; "  WORD     four groups of eight hexadecimal digits, leftmost first")?;
     eprintln!(rt; "  PIDS     32 to 8190, with commas, decimal or after 0x")?;
-    eprintln!(rt; "  IN, OUT  transport stream files; a rehearsal writes none, and shows")?;
-    eprintln!(rt; "           the scrambled packets after --packets")
+    eprintln!(rt; "  LOG      a line for each word: SERVICE PIDS PARITY KIND WORD MOMENT")?;
+    eprintln!(rt; "  FILE     the identifier of encrypted words, as four groups")?;
+    eprintln!(rt; "  MOMENT   words of the log count up to here, 0 to 4000000000 seconds")
 }
 
 fn layer_name(layer: Layer) -> &'static str {
@@ -63,7 +82,12 @@ pub fn print_refusal(rt: &HostRuntime, fault: &EngineFault, done: u64) -> io::Re
     }
 }
 
-/// A stream that cannot be read, and why.
+/// A refused line of the log.
+pub fn print_log_fault(rt: &HostRuntime, fault: &LogFault) -> io::Result<()> {
+    eprintln!(rt; "{fault}")
+}
+
+/// A file that cannot be read, and why.
 pub fn print_unreadable(rt: &HostRuntime, path: &str, error: &io::Error) -> io::Result<()> {
     eprintln!(rt; "{path}: {error}")
 }
@@ -91,23 +115,56 @@ fn task_name(task: Task) -> &'static str {
     }
 }
 
-/// What became of the stream.
-pub fn print_tally(rt: &HostRuntime, command: &Command, tally: &Tally) -> io::Result<()> {
+/// What became of the stream: on standard output, unless the stream itself is there.
+pub fn print_tally(
+    rt: &HostRuntime,
+    command: &Command,
+    source: Source,
+    tally: &Tally,
+) -> io::Result<()> {
+    if command.writes_to_pipe() {
+        return write_tally(&mut rt.stderr(), command, source, tally);
+    }
+    write_tally(&mut rt.stdout(), command, source, tally)
+}
+
+fn write_tally<W: Write>(
+    out: &mut W,
+    command: &Command,
+    source: Source,
+    tally: &Tally,
+) -> io::Result<()> {
     let task = task_name(command.task);
     let profile = profile_name(command.profile);
-    let parity = parity_name(command.keys.parity);
-    println!(rt; "{task}: profile {profile}, {parity} word")?;
+    write!(out, "{task}: profile {profile}, ")?;
+    write_source(out, source)?;
     let read = tally.all.read;
     let changed = tally.all.changed;
     let passed = tally.all.passed();
-    println!(rt; "packets: {read} read, {changed} changed, {passed} passed")?;
+    writeln!(
+        out,
+        "packets: {read} read, {changed} changed, {passed} passed"
+    )?;
     for (pid, count) in &tally.pids {
         let read = count.read;
         let changed = count.changed;
         let passed = count.passed();
-        println!(rt; "PID {pid}: {read} read, {changed} changed, {passed} passed")?;
+        writeln!(
+            out,
+            "PID {pid}: {read} read, {changed} changed, {passed} passed"
+        )?;
     }
     Ok(())
+}
+
+fn write_source<W: Write>(out: &mut W, source: Source) -> io::Result<()> {
+    match source {
+        Source::Given(parity) => {
+            let parity = parity_name(parity);
+            writeln!(out, "{parity} word")
+        }
+        Source::Logged(lines) => writeln!(out, "lines loaded from the log: {lines}"),
+    }
 }
 
 /// A packet in hexadecimal, sixteen bytes to a line.

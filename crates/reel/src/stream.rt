@@ -1,17 +1,17 @@
-// A stream file, in batches of 64 packets, so that memory does not grow with it.
+// A stream, in batches of 64 packets, so that memory does not grow with it.
 ghost use Rattle.std.specs.Prelude.{◌≤◌, length, IfOk};
 
 use crate::command::{Command, Task};
+use crate::element::Element;
+use crate::ends::{Destination, Origin};
 use crate::report;
-use crate::station::{Station, finish, start};
+use crate::report::Source;
 use crate::tally::Tally;
 use anyhow::anyhow;
-use cipher::{Cipher, Profile, TailRule};
 use engine::EngineFault;
-use law::every_run_is_lawful;
 use std::fs::File;
 use std::io;
-use std::io::{Read, Write};
+use std::io::Read;
 use std::rt::Files;
 
 /// 64 packets.
@@ -20,71 +20,61 @@ const BATCH: usize = 12032;
 // After so many packets a line on standard error says how far the run is.
 const PROGRESS: u64 = 1 << 20;
 
-/// Where a changed stream goes.
-#[derive(Drop)]
-enum Destination {
-    Nowhere,
-    Into(File),
-}
-
-/// Scrambles or descrambles a stream into a file.
-pub fn convert<C: Cipher + Drop, T: TailRule + Drop>(
+/// Scrambles or descrambles a stream.
+pub fn convert<E: Element>(
     rt: &HostRuntime,
-    profile: Profile<C, T>,
+    element: &E,
     command: &Command,
+    source: Source,
 ) -> anyhow::Result<()> {
-    let station = match start(profile, &command.keys) {
-        Ok(station) => station,
-        Err(fault) => return Err(refused(rt, &fault, 0)),
+    let tally = if command.writes_to_pipe() {
+        convert_into(
+            rt,
+            element,
+            command,
+            &mut Destination::Standard(rt.stdout()),
+        )?
+    } else {
+        convert_safely(rt, element, command)?
     };
-    let result = convert_safely(rt, &station, command);
-    finish(station);
-    let tally = result?;
-    report::print_tally(rt, command, &tally)?;
+    report::print_tally(rt, command, source, &tally)?;
     Ok(())
 }
 
-/// Scrambles a stream in memory at one engine, brings it back at another and compares every byte.
-/// That it comes back is proved of every stream: the contract of `every_run_is_lawful` says so.
-pub fn rehearse<C: Cipher + Drop, T: TailRule + Drop>(
+/// Scrambles a stream in memory at one element, brings it back at the other and compares every byte.
+pub fn work_back<E: Element>(
     rt: &HostRuntime,
-    profile: Profile<C, T>,
-    other: Profile<C, T>,
+    near: &E,
+    far: &E,
     command: &Command,
+    source: Source,
 ) -> anyhow::Result<()> {
-    every_run_is_lawful::<C, T, shelf::PlainShelf, C, T, shelf::PlainShelf>();
-    let near = match start(profile, &command.keys) {
-        Ok(station) => station,
-        Err(fault) => return Err(refused(rt, &fault, 0)),
-    };
-    let far = match start(other, &command.keys) {
-        Ok(station) => station,
-        Err(fault) => {
-            finish(near);
-            return Err(refused(rt, &fault, 0));
-        }
-    };
-    let result = work_through(rt, &near, &far, command, &mut Destination::Nowhere);
-    finish(near);
-    finish(far);
-    let tally = result?;
-    report::print_tally(rt, command, &tally)?;
+    let tally = work_through(rt, near, far, command, &mut Destination::Nowhere)?;
+    report::print_tally(rt, command, source, &tally)?;
     println!(rt; "every packet came back byte for byte")?;
     Ok(())
 }
 
-// A refusal is printed whole; what is left to say is short.
-fn refused(rt: &HostRuntime, fault: &EngineFault, done: u64) -> anyhow::Error {
+/// A refusal is printed whole; what is left to say is short.
+pub fn refused(
+    rt: &HostRuntime,
+    command: &Command,
+    fault: &EngineFault,
+    done: u64,
+) -> anyhow::Error {
     match report::print_refusal(rt, fault, done) {
+        Ok(()) if command.writes_to_pipe() && done > 0 => {
+            anyhow!("the stream was refused, and the packets before are written")
+        }
         Ok(()) => anyhow!("the stream was refused, and nothing was written"),
         Err(error) => error.into(),
     }
 }
 
 // Opens the stream, or says why that cannot be.
-fn open_input(rt: &HostRuntime, path: &str) -> anyhow::Result<File> {
-    match File::open(rt, path) {
-        Ok(file) => Ok(file),
+fn open_input(rt: &HostRuntime, path: &str) -> anyhow::Result<Origin> {
+    match Origin::open(rt, path) {
+        Ok(origin) => Ok(origin),
         Err(error) => {
             report::print_unreadable(rt, path, &error)?;
             Err(anyhow!("the stream cannot be opened"))
@@ -93,7 +83,8 @@ fn open_input(rt: &HostRuntime, path: &str) -> anyhow::Result<File> {
 }
 
 // Reads until the buffer is full or the input ends, and answers how many bytes came.
-fn fill(input: &mut File, buffer: &mut [u8]) -> io::Result<usize>
+// A pipe gives a few bytes at a time.
+fn fill(input: &mut Origin, buffer: &mut [u8]) -> io::Result<usize>
     ensures { IfOk result (λ n. n ≤ length buffer.old) }
 {
     let mut filled = 0;
@@ -116,14 +107,14 @@ fn progress(rt: &HostRuntime, before: u64, after: u64) -> io::Result<()> {
 }
 
 // Writes the changed stream beside the output, and gives it its name once all of it is there.
-fn convert_safely<C: Cipher, T: TailRule>(
+fn convert_safely<E: Element>(
     rt: &HostRuntime,
-    station: &Station<C, T>,
+    element: &E,
     command: &Command,
 ) -> anyhow::Result<Tally> {
     let output = command.output.as_str();
     let part = format!(in rt.alloc(); "{output}.part")?;
-    match convert_into(rt, station, command, part.as_str()) {
+    match convert_to_file(rt, element, command, part.as_str()) {
         Ok(tally) => {
             rt.rename(part.as_str(), output)?;
             Ok(tally)
@@ -135,25 +126,32 @@ fn convert_safely<C: Cipher, T: TailRule>(
     }
 }
 
-fn convert_into<C: Cipher, T: TailRule>(
+fn convert_to_file<E: Element>(
     rt: &HostRuntime,
-    station: &Station<C, T>,
+    element: &E,
     command: &Command,
     part: &str,
 ) -> anyhow::Result<Tally> {
     let mut destination = Destination::Into(File::create(rt, part)?);
-    let tally = work_through(rt, station, station, command, &mut destination)?;
-    if let Destination::Into(file) = &mut destination {
-        file.flush()?;
-    }
+    convert_into(rt, element, command, &mut destination)
+}
+
+fn convert_into<E: Element>(
+    rt: &HostRuntime,
+    element: &E,
+    command: &Command,
+    destination: &mut Destination,
+) -> anyhow::Result<Tally> {
+    let tally = work_through(rt, element, element, command, destination)?;
+    destination.flush()?;
     Ok(tally)
 }
 
 // Takes the stream batch by batch. One that holds no packet is refused: it is no recording.
-fn work_through<C: Cipher, T: TailRule>(
+fn work_through<E: Element>(
     rt: &HostRuntime,
-    near: &Station<C, T>,
-    far: &Station<C, T>,
+    near: &E,
+    far: &E,
     command: &Command,
     destination: &mut Destination,
 ) -> anyhow::Result<Tally> {
@@ -176,12 +174,12 @@ fn work_through<C: Cipher, T: TailRule>(
     Ok(tally)
 }
 
-fn each_batch<C: Cipher, T: TailRule>(
+fn each_batch<E: Element>(
     rt: &HostRuntime,
-    near: &Station<C, T>,
-    far: &Station<C, T>,
+    near: &E,
+    far: &E,
     command: &Command,
-    input: &mut File,
+    input: &mut Origin,
     destination: &mut Destination,
     buffer: &mut [u8],
     tally: &mut Tally,
@@ -192,21 +190,14 @@ fn each_batch<C: Cipher, T: TailRule>(
             break;
         }
         let done = tally.all.read;
-        match destination {
-            Destination::Nowhere => rehearse_batch(
-                rt,
-                near,
-                far,
-                command,
-                &mut buffer[0..n],
-                tally,
-            )?,
-            Destination::Into(file) => convert_batch(
+        match command.task {
+            Task::Rehearse => rehearse_batch(rt, near, far, command, &mut buffer[0..n], tally)?,
+            Task::Scramble | Task::Descramble => convert_batch(
                 rt,
                 near,
                 command,
                 &mut buffer[0..n],
-                file,
+                destination,
                 tally,
             )?,
         }
@@ -216,56 +207,57 @@ fn each_batch<C: Cipher, T: TailRule>(
 }
 
 // Scrambles or descrambles a batch in place, with a key area of its own.
-fn change_batch<C: Cipher, T: TailRule>(
+fn change_batch<E: Element>(
     rt: &HostRuntime,
-    station: &Station<C, T>,
+    element: &E,
+    command: &Command,
     task: Task,
     batch: &mut [u8],
     done: u64,
 ) -> anyhow::Result<()> {
-    let mut area = vec![in rt.alloc(); 0; station.schedule_len]?;
+    let mut area = vec![in rt.alloc(); 0; element.schedule_len()]?;
     let answer = match task {
-        Task::Scramble | Task::Rehearse => station.engine.scramble(area.as_mut_slice(), batch),
-        Task::Descramble => station.engine.descramble(area.as_mut_slice(), batch),
+        Task::Scramble | Task::Rehearse => element.scramble(area.as_mut_slice(), batch),
+        Task::Descramble => element.descramble(area.as_mut_slice(), batch),
     };
     match answer {
         Ok(_) => Ok(()),
-        Err(fault) => Err(refused(rt, &fault, done)),
+        Err(fault) => Err(refused(rt, command, &fault, done)),
     }
 }
 
-fn convert_batch<C: Cipher, T: TailRule>(
+fn convert_batch<E: Element>(
     rt: &HostRuntime,
-    station: &Station<C, T>,
+    element: &E,
     command: &Command,
     batch: &mut [u8],
-    file: &mut File,
+    destination: &mut Destination,
     tally: &mut Tally,
 ) -> anyhow::Result<()> {
     let before = batch.to_vec(rt.alloc())?;
-    change_batch(rt, station, command.task, batch, tally.all.read)?;
-    file.write_all(batch)?;
+    change_batch(rt, element, command, command.task, batch, tally.all.read)?;
+    destination.put(batch)?;
     tally.add(before.as_slice(), batch)?;
     Ok(())
 }
 
 // Scrambles a batch in memory, brings it back at the other engine and compares every byte.
-fn rehearse_batch<C: Cipher, T: TailRule>(
+fn rehearse_batch<E: Element>(
     rt: &HostRuntime,
-    near: &Station<C, T>,
-    far: &Station<C, T>,
+    near: &E,
+    far: &E,
     command: &Command,
     batch: &mut [u8],
     tally: &mut Tally,
 ) -> anyhow::Result<()> {
     let clear = batch.to_vec(rt.alloc())?;
     let done = tally.all.read;
-    change_batch(rt, near, Task::Scramble, batch, done)?;
+    change_batch(rt, near, command, Task::Scramble, batch, done)?;
     tally.add(clear.as_slice(), batch)?;
     if command.shows_packets {
         show_changed(rt, clear.as_slice(), batch, done)?;
     }
-    change_batch(rt, far, Task::Descramble, batch, done)?;
+    change_batch(rt, far, command, Task::Descramble, batch, done)?;
     if !same_bytes(clear.as_slice(), batch) {
         return Err(anyhow!("a packet did not come back"));
     }

@@ -1,27 +1,15 @@
-use Rattle.std.proofs.Common.{Ok, Err, is_ok, refl, sym, ap, ◌∙◌}
+use Rattle.std.proofs.Common.{Ok, Err, is_ok, rules, sym, ap, ◌∙◌}
 use Rattle.std.proofs.lemmas.Bool.{false≢true}
 use Rattle.std.proofs.lemmas.Result.{err_from_is_err_and}
 use Rattle.engine.specs.declared.faults.EngineFault.{EngineFault}
 use Rattle.engine.specs.Model.{model_of}
-use Rattle.law.proofs.Rehearsed.{returned}
+use Rattle.law.proofs.Rehearsed.{rehearsed}
 use Rattle.law.proofs.rehearsal.rehearse.Goals as goal
 
 pub returns : goal.returns
 returns g c =
-    let counts = c.in_ok-scrambled.scrambled in
-    let counts₂ = c.in_ok-descrambled.descrambled in
-    let first = c.in_ok-scrambled.ensures.does in
-    let second = c.in_ok-descrambled.ensures.does in
-    record {
-      answer = Ok counts;
-      scrambled = c.scramble.new.batch;
-      first = first;
-      second = (Ok counts₂, second, refl);
-      returns = λ _.
-          returned (model_of g.C.Cipher g.T.TailRule g.S.Shelf) (model_of g.R.Cipher g.U.TailRule g.V.Shelf) c.every_run_is_lawful.ensures
-          c.args.one.now c.args.two.now c.args.area.now c.args.other_area.now c.args.batch.now c.scramble.new.area c.descramble.new.area c.scramble.new.batch
-          c.descramble.new.batch (Ok counts) counts₂ first second c.scramble.auto.batch;
-    }
+    rehearsed (model_of g.C.Cipher g.T.TailRule g.S.Shelf) (model_of g.R.Cipher g.U.TailRule g.V.Shelf) c.every_run_is_lawful.ensures c.args.one.now c.args.two.now
+    c.args.area.now c.args.other_area.now c.args.batch.now c.scramble.new.batch c.in_ok-scrambled.ensures.does (search rules) c.scramble.auto.batch
 
 -- the second call refuses, and its fault is the answer
 pub returns-in_err-descrambled : goal.returns-in_err-descrambled

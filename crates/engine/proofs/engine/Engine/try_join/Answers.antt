@@ -27,7 +27,8 @@ returns-in_err-add g c =
 pub returns : goal.returns
 returns g c =
     let r : Answer = Ok tt in
-    let a = added c.args.self.now.desk.components c.add.new.self c.args.service c.args.pid c.in_ok-open.open c.add.result r c.in_ok-open.ensures.0 (ap lifted (sym c.in_ok-add.was)) c.add.ensures.answer c.add.ensures.rows c.add.ensures.joined in
+    let accepted : c.add.result ≡ Ok tt = search rules in
+    let a = added c.args.self.now.desk.components c.add.new.self c.args.service c.args.pid c.in_ok-open.open c.add.result r c.in_ok-open.ensures.0 (ap lifted (sym accepted)) c.add.ensures.answer c.add.ensures.rows c.add.ensures.joined in
     record {
       does = record {
         answer = a.answer ∙ unless_none (closed (slots_of c.args.self.now.desk) c.args.service) _ c.in_ok-open.ensures.1;
