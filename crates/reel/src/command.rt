@@ -230,7 +230,7 @@ pub fn parse(heap: Global, words: &[String]) -> Result<(Command, KeySource), Bad
         return Err(BadCommand::Usage(Mistake::NoInput));
     }
     let (output, shows_packets) = match task {
-        Task::Rehearse => ("", words.takes("--packets")),
+        Task::Rehearse => ("", packets_shown(&mut words)),
         Task::Scramble | Task::Descramble => (given_output(&mut words)?, false),
     };
     if !words.rest.is_empty() {
@@ -245,6 +245,15 @@ pub fn parse(heap: Global, words: &[String]) -> Result<(Command, KeySource), Bad
         shows_packets,
     };
     Ok((command, keys))
+}
+
+// Whether a rehearsal shows its packets. An empty word in that place says no.
+fn packets_shown(words: &mut Words<'_>) -> bool {
+    let shown = words.takes("--packets");
+    if !shown {
+        let _ = words.takes("");
+    }
+    shown
 }
 
 fn given_output<'a>(words: &mut Words<'a>) -> Result<&'a str, BadCommand> {

@@ -33,7 +33,8 @@ pub fn fetch(rt: &HostRuntime, request: &LogRequest) -> anyhow::Result<KeyRing> 
     Ok(KeyRing { log, identifier })
 }
 
-/// Does what the command asks, over the shelf that the words ask for. A rehearsal takes both profiles, any other task the near one.
+/// Does what the command asks, over the shelf that the words ask for.
+/// A rehearsal takes both profiles, any other task the near one.
 pub fn carry_out<C: Cipher + Drop, T: TailRule + Drop>(
     rt: &HostRuntime,
     near: Profile<C, T>,
@@ -118,7 +119,7 @@ fn logged(rt: &HostRuntime, request: &LogRequest) -> anyhow::Result<Log> {
     }
 }
 
-/// A refused line is printed whole; what is left to say is short.
+// A refused line is printed whole; what is left to say is short.
 fn refused_log(rt: &HostRuntime, fault: &LogFault) -> anyhow::Error {
     match report::print_log_fault(rt, fault) {
         Ok(()) => anyhow!("the log was refused, and nothing was written"),

@@ -1,6 +1,8 @@
 ghost use Rattle.std.specs.Prelude.{◌≡◌, ℕ, true};
 ghost use Rattle.engine.specs.Calls.{Joins, Loads, Picks};
 ghost use Rattle.engine.specs.Model.{slots_of, model_of};
+ghost use Rattle.engine.specs.Onward.{onward_of};
+ghost use Rattle.shelf.specs.Onward.{after_put};
 ghost use Rattle.reel.specs.Held.{accepted, without};
 
 use crate::services::{Services, ServicesFault};
@@ -41,7 +43,8 @@ impl<C: Cipher, T: TailRule, S: Shelf> Services<C, T, S> {
     // The three calls that give no grant are the engine's own.
 
     pub fn join(&mut self, service: u8, pid: u16) -> Result<(), EngineFault>
-        ensures { Joins (model_of C.Cipher T.TailRule S.Shelf self.old.engine) service pid result (model_of C.Cipher T.TailRule S.Shelf self.new.engine) }
+        ensures does { Joins (model_of C.Cipher T.TailRule S.Shelf self.old.engine) service pid result (model_of C.Cipher T.TailRule S.Shelf self.new.engine) }
+        ensures later { onward_of S.Shelf self.new.engine ≡ onward_of S.Shelf self.old.engine }
     {
         self.engine.join(service, pid)
     }
@@ -53,13 +56,15 @@ impl<C: Cipher, T: TailRule, S: Shelf> Services<C, T, S> {
         entry: &[u8; 16],
         moment: u32,
     ) -> Result<(), EngineFault>
-        ensures { Loads (model_of C.Cipher T.TailRule S.Shelf self.old.engine) service parity entry.now moment result (model_of C.Cipher T.TailRule S.Shelf self.new.engine) }
+        ensures does { Loads (model_of C.Cipher T.TailRule S.Shelf self.old.engine) service parity entry.now moment result (model_of C.Cipher T.TailRule S.Shelf self.new.engine) }
+        ensures later { onward_of S.Shelf self.new.engine ≡ after_put result service moment (onward_of S.Shelf self.old.engine) }
     {
         self.engine.load(service, parity, entry, moment)
     }
 
     pub fn pick(&mut self, service: u8, parity: Parity) -> Result<(), EngineFault>
-        ensures { Picks (model_of C.Cipher T.TailRule S.Shelf self.old.engine) service parity result (model_of C.Cipher T.TailRule S.Shelf self.new.engine) }
+        ensures does { Picks (model_of C.Cipher T.TailRule S.Shelf self.old.engine) service parity result (model_of C.Cipher T.TailRule S.Shelf self.new.engine) }
+        ensures later { onward_of S.Shelf self.new.engine ≡ onward_of S.Shelf self.old.engine }
     {
         self.engine.pick(service, parity)
     }
