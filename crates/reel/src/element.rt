@@ -1,44 +1,25 @@
 // What changes the packets of a stream.
-use crate::services::Services;
-use crate::station::Station;
-use cipher::{Cipher, TailRule};
+ghost use Rattle.std.specs.Prelude.{◌≡◌, ℕ, List};
+ghost use Rattle.batch.specs.declared.plan.Direction.TheVariants.{Scramble, Descramble};
+ghost use Rattle.engine.specs.Calls.{Batches};
+ghost use Rattle.engine.specs.Model.{Model};
+
 use engine::EngineFault;
-use shelf::Shelf;
 
 /// An engine whose services are open and hold their words.
 pub trait Element {
+    // The engine as its callers see it.
+    ghost model: { Self → Model };
+
+    ghost area_length: { Self → ℕ };
+
     /// How long a key area has to be.
-    fn schedule_len(&self) -> usize;
+    fn schedule_len(&self) -> usize
+        ensures { result ≡ area_length self.now };
 
-    fn scramble(&self, area: &mut [u8], batch: &mut [u8]) -> Result<(usize, usize), EngineFault>;
+    fn scramble(&self, area: &mut [u8], batch: &mut [u8]) -> Result<(usize, usize), EngineFault>
+        ensures { Batches Scramble (model self.now) area.old batch.old result area.new batch.new (model self.now) };
 
-    fn descramble(&self, area: &mut [u8], batch: &mut [u8]) -> Result<(usize, usize), EngineFault>;
-}
-
-impl<C: Cipher, T: TailRule> Element for Station<C, T> {
-    fn schedule_len(&self) -> usize {
-        self.schedule_len
-    }
-
-    fn scramble(&self, area: &mut [u8], batch: &mut [u8]) -> Result<(usize, usize), EngineFault> {
-        self.engine.scramble(area, batch)
-    }
-
-    fn descramble(&self, area: &mut [u8], batch: &mut [u8]) -> Result<(usize, usize), EngineFault> {
-        self.engine.descramble(area, batch)
-    }
-}
-
-impl<C: Cipher, T: TailRule, S: Shelf> Element for Services<C, T, S> {
-    fn schedule_len(&self) -> usize {
-        self.schedule_len
-    }
-
-    fn scramble(&self, area: &mut [u8], batch: &mut [u8]) -> Result<(usize, usize), EngineFault> {
-        self.engine.scramble(area, batch)
-    }
-
-    fn descramble(&self, area: &mut [u8], batch: &mut [u8]) -> Result<(usize, usize), EngineFault> {
-        self.engine.descramble(area, batch)
-    }
+    fn descramble(&self, area: &mut [u8], batch: &mut [u8]) -> Result<(usize, usize), EngineFault>
+        ensures { Batches Descramble (model self.now) area.old batch.old result area.new batch.new (model self.now) };
 }

@@ -13,10 +13,18 @@ mod stream;
 mod tally;
 
 use anyhow::anyhow;
+use cipher::{Cipher, Profile, TailRule};
 use command::{BadCommand, Command, KeySource, Keys, ProfileName};
 use logged::KeyRing;
 use profile::{cissa_profile, des_profile, idsa_profile};
 use std::env;
+
+/// The words that are to be loaded.
+#[derive(Drop)]
+enum Loads {
+    Given(Keys),
+    Logged(KeyRing),
+}
 
 fn main(rt: HostRuntime) -> anyhow::Result<()> {
     run(&rt)
@@ -31,31 +39,32 @@ fn run(rt: &HostRuntime) -> anyhow::Result<()> {
 }
 
 fn carry_out(rt: &HostRuntime, command: &Command, source: KeySource) -> anyhow::Result<()> {
+    let words = fetch(rt, source)?;
+    match command.profile {
+        ProfileName::Cissa => with_words(rt, cissa_profile(), cissa_profile(), command, &words),
+        ProfileName::Idsa => with_words(rt, idsa_profile(), idsa_profile(), command, &words),
+        ProfileName::Des => with_words(rt, des_profile(), des_profile(), command, &words),
+    }
+}
+
+// Reads what the command names.
+fn fetch(rt: &HostRuntime, source: KeySource) -> anyhow::Result<Loads> {
     match source {
-        KeySource::Given(keys) => with_keys(rt, command, &keys),
-        KeySource::Logged(request) => with_log(rt, command, &logged::fetch(rt, &request)?),
+        KeySource::Given(keys) => Ok(Loads::Given(keys)),
+        KeySource::Logged(request) => Ok(Loads::Logged(logged::fetch(rt, &request)?)),
     }
 }
 
-fn with_keys(rt: &HostRuntime, command: &Command, keys: &Keys) -> anyhow::Result<()> {
-    match command.profile {
-        ProfileName::Cissa => given::carry_out(rt, cissa_profile(), cissa_profile(), command, keys),
-        ProfileName::Idsa => given::carry_out(rt, idsa_profile(), idsa_profile(), command, keys),
-        ProfileName::Des => given::carry_out(rt, des_profile(), des_profile(), command, keys),
-    }
-}
-
-fn with_log(rt: &HostRuntime, command: &Command, ring: &KeyRing) -> anyhow::Result<()> {
-    match command.profile {
-        ProfileName::Cissa => logged::carry_out(
-            rt,
-            cissa_profile(),
-            cissa_profile(),
-            command,
-            ring,
-        ),
-        ProfileName::Idsa => logged::carry_out(rt, idsa_profile(), idsa_profile(), command, ring),
-        ProfileName::Des => logged::carry_out(rt, des_profile(), des_profile(), command, ring),
+fn with_words<C: Cipher + Drop, T: TailRule + Drop>(
+    rt: &HostRuntime,
+    near: Profile<C, T>,
+    far: Profile<C, T>,
+    command: &Command,
+    words: &Loads,
+) -> anyhow::Result<()> {
+    match words {
+        Loads::Given(keys) => given::carry_out(rt, near, far, command, keys),
+        Loads::Logged(ring) => logged::carry_out(rt, near, far, command, ring),
     }
 }
 

@@ -6,8 +6,9 @@ use engine::{Engine, Grant};
 use shelf::PlainShelf;
 
 mod calls;
+mod element;
 
-pub use calls::{finish, start};
+pub use calls::{TAG, finish, start};
 
 pub struct Station<C, T> {
     pub engine: Engine<C, T, PlainShelf>,

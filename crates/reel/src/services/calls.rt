@@ -5,15 +5,14 @@ ghost use Rattle.engine.specs.Onward.{onward_of};
 ghost use Rattle.shelf.specs.Onward.{after_put};
 ghost use Rattle.reel.specs.Held.{accepted, without};
 
+use crate::element::Element;
 use crate::services::{Services, ServicesFault};
+use crate::station::TAG;
 use cipher::{Cipher, Profile, TailRule};
 use engine::{Engine, EngineFault, Grant, Unclosed};
 use shelf::Shelf;
 use std::alloc::{AllocFailed as Refused, Global};
 use word::Parity;
-
-// The program's engines need no tags to be told apart.
-const TAG: u16 = 1;
 
 impl<C: Cipher, T: TailRule, S: Shelf> Services<C, T, S> {
     /// An engine under a profile, over a shelf, with no service open.
@@ -67,6 +66,24 @@ impl<C: Cipher, T: TailRule, S: Shelf> Services<C, T, S> {
         ensures later { onward_of S.Shelf self.new.engine ≡ onward_of S.Shelf self.old.engine }
     {
         self.engine.pick(service, parity)
+    }
+}
+
+impl<C: Cipher, T: TailRule, S: Shelf> Element for Services<C, T, S> {
+    ghost model = { λ s. model_of C.Cipher T.TailRule S.Shelf s.engine };
+
+    ghost area_length = { λ s. s.schedule_len };
+
+    fn schedule_len(&self) -> usize {
+        self.schedule_len
+    }
+
+    fn scramble(&self, area: &mut [u8], batch: &mut [u8]) -> Result<(usize, usize), EngineFault> {
+        self.engine.scramble(area, batch)
+    }
+
+    fn descramble(&self, area: &mut [u8], batch: &mut [u8]) -> Result<(usize, usize), EngineFault> {
+        self.engine.descramble(area, batch)
     }
 }
 

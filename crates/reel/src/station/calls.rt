@@ -7,8 +7,8 @@ use cipher::{Cipher, Profile, TailRule};
 use engine::{Engine, EngineFault, Grant, Unclosed};
 use shelf::PlainShelf;
 
-// The program's engines need no tags to be told apart.
-const TAG: u16 = 1;
+/// The program's engines need no tags to be told apart.
+pub const TAG: u16 = 1;
 
 /// An engine under a profile, ready to scramble and descramble the chosen PIDs under the word.
 pub fn start<C: Cipher + Drop, T: TailRule + Drop>(
