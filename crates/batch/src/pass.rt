@@ -60,9 +60,9 @@ fn run<C: Cipher, T: TailRule, K: Keyring>(
 ) -> Result<(usize, usize), BatchFault>
     ensures answer { result ≡ batch_answer direction (meaning C.Cipher T.TailRule profile.now) (keys_of K.Keyring keys.now) (length area.old) batch.old }
     ensures after { batch.new ≡ (if is_ok result then batch_after direction (meaning C.Cipher T.TailRule profile.now) (keys_of K.Keyring keys.now) batch.old else batch.old) }
-    ensures wiped { area.new ≡ (if nat_eq (length area.old) C.Cipher.schedule_length then replicate (length area.old) 0 else area.old) }
+    ensures wiped { area.new ≡ (if nat_eq (length area.old) C.Cipher.SCHEDULE then replicate (length area.old) 0 else area.old) }
 {
-    if area.len() != profile.cipher.schedule_len() {
+    if area.len() != C::SCHEDULE {
         return Err(BatchFault::KeyArea { length: area.len() });
     }
     let guard = KeyArea { bytes: area };
@@ -113,7 +113,7 @@ fn test_all<K: Keyring>(direction: Direction, keys: &K, batch: &[u8]) -> Result<
 
 // Has the schedule of the word in the area: nothing is done where it is there already.
 fn prepare<C: Cipher>(cipher: &C, word: Word, prepared: &mut Option<Word>, area: &mut [u8])
-    requires long { length area.old ≡ C.Cipher.schedule_length }
+    requires long { length area.old ≡ C.Cipher.SCHEDULE }
     requires prepared { Prepared (C.Cipher.schedule cipher.now) prepared.old area.old }
     ensures is { area.new ≡ C.Cipher.schedule cipher.now word }
     ensures prepared { Prepared (C.Cipher.schedule cipher.now) prepared.new area.new }
@@ -181,7 +181,7 @@ fn follow<C: Cipher, T: TailRule, K: Keyring>(
     area: &mut [u8],
     packet: &mut [u8],
 ) -> bool
-    requires long { length area.old ≡ C.Cipher.schedule_length }
+    requires long { length area.old ≡ C.Cipher.SCHEDULE }
     requires prepared { Prepared (C.Cipher.schedule profile.now.cipher) prepared.old area.old }
     requires size { length packet.old ≡ 188 }
     ensures after { packet.new ≡ followed (plan_of direction (keys_of K.Keyring keys.now)) (changed direction (meaning C.Cipher T.TailRule profile.now)) packet.old }
@@ -209,7 +209,7 @@ fn follow_at<C: Cipher, T: TailRule, K: Keyring>(
     batch: &mut [u8],
     i: usize,
 ) -> bool
-    requires long { length area.old ≡ C.Cipher.schedule_length }
+    requires long { length area.old ≡ C.Cipher.SCHEDULE }
     requires prepared { Prepared (C.Cipher.schedule profile.now.cipher) prepared.old area.old }
     requires inside { i < length batch.old / 188 }
     ensures after { batch.new ≡ replaced batch.old i (followed (plan_of direction (keys_of K.Keyring keys.now)) (changed direction (meaning C.Cipher T.TailRule profile.now)) (packet_at batch.old i)) }
@@ -243,7 +243,7 @@ fn change_all<C: Cipher, T: TailRule, K: Keyring>(
     area: &mut [u8],
     batch: &mut [u8],
 ) -> (usize, usize)
-    requires long { length area.old ≡ C.Cipher.schedule_length }
+    requires long { length area.old ≡ C.Cipher.SCHEDULE }
     requires whole { length batch.old % 188 ≡ 0 }
     ensures after { batch.new ≡ batch_after direction (meaning C.Cipher T.TailRule profile.now) (keys_of K.Keyring keys.now) batch.old }
     ensures value { result ≡ (changed_count (plan_of direction (keys_of K.Keyring keys.now)) (packets batch.old), passed_count (plan_of direction (keys_of K.Keyring keys.now)) (packets batch.old)) }

@@ -19,8 +19,8 @@ pub record Meaning : Type 0 where
 
 abbrev pub meaning : {C T : Type 0} → CipherGhosts C → TailGhosts T → Profile C T → Meaning
 meaning c t p = record {
-  width = c.width;
-  schedule_length = c.schedule_length;
+  width = c.WIDTH;
+  schedule_length = c.SCHEDULE;
   schedule = c.schedule p.cipher;
   E = c.E p.cipher;
   D = c.D p.cipher;

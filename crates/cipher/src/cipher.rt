@@ -14,10 +14,10 @@ pub trait Cipher {
     /// The length of a schedule in bytes, 1 to 4,096.
     const SCHEDULE: usize;
 
-    // The two constants once more: no clause can name an associated constant.
-    ghost width: { ℕ };
+    // The two constants, as clauses and laws name them.
+    ghost WIDTH: { ℕ };
 
-    ghost schedule_length: { ℕ };
+    ghost SCHEDULE: { ℕ };
 
     // The schedule that `prepare` makes of a word.
     ghost schedule: { Self → Word → List ℕ };
@@ -26,30 +26,22 @@ pub trait Cipher {
 
     ghost D: { Self → Word → List ℕ → List ℕ };
 
-    /// `WIDTH`, in a form that generic code can rest on.
-    fn block_len(&self) -> usize
-        ensures { result ≡ width };
-
-    /// `SCHEDULE`, in a form that generic code can rest on.
-    fn schedule_len(&self) -> usize
-        ensures { result ≡ schedule_length };
-
     /// Fills the area with the word's schedule.
     fn prepare(&self, word: Word, area: &mut [u8])
-        requires { length area.old ≡ schedule_length }
+        requires { length area.old ≡ SCHEDULE }
         ensures { area.new ≡ schedule self.now word };
 
     /// Turns the block into E of it, under the word whose schedule the area holds.
     fn encrypt(&self, area: &[u8], block: &mut [u8])
-        requires { (length area.now ≡ schedule_length) × (length block.old ≡ width) }
+        requires { (length area.now ≡ SCHEDULE) × (length block.old ≡ WIDTH) }
         ensures { (w : Word) → area.now ≡ schedule self.now w → block.new ≡ E self.now w block.old };
 
     /// Turns the block into D of it, under the word whose schedule the area holds.
     fn decrypt(&self, area: &[u8], block: &mut [u8])
-        requires { (length area.now ≡ schedule_length) × (length block.old ≡ width) }
+        requires { (length area.now ≡ SCHEDULE) × (length block.old ≡ WIDTH) }
         ensures { (w : Word) → area.now ≡ schedule self.now w → block.new ≡ D self.now w block.old };
 
-    ghost sizes: { Sizes width schedule_length };
+    ghost sizes: { Sizes WIDTH SCHEDULE };
 
-    ghost inverts: { (s : Self) → CipherLaws width schedule_length (schedule s) (E s) (D s) };
+    ghost inverts: { (s : Self) → CipherLaws WIDTH SCHEDULE (schedule s) (E s) (D s) };
 }

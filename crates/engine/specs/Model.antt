@@ -67,8 +67,8 @@ pub record Given : Type 0 where
 abbrev pub given_of : {C T S : Type 0} → CipherGhosts C → TailGhosts T → ShelfGhosts S → C → T → List ℕ → S → ℕ → Given
 given_of c t s cipher tail iv shelf tag = record {
   profile = record {
-    width = c.width;
-    schedule_length = c.schedule_length;
+    width = c.WIDTH;
+    schedule_length = c.SCHEDULE;
     schedule = c.schedule cipher;
     E = c.E cipher;
     D = c.D cipher;

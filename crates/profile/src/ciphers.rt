@@ -25,9 +25,9 @@ impl Cipher for Aes128 {
 
     const SCHEDULE: usize = aes::SCHEDULE_LEN;
 
-    ghost width = { 16 };
+    ghost WIDTH = { 16 };
 
-    ghost schedule_length = { 176 };
+    ghost SCHEDULE = { 176 };
 
     ghost schedule = { λ s w. key_expansion (word_bytes w) };
 
@@ -44,14 +44,6 @@ impl Cipher for Aes128 {
       D_E = λ w b h. (KeyWords.inverts (word_bytes w) b (word_block w) h).inv_cipher_of_cipher;
       E_D = λ w b h. (KeyWords.inverts (word_bytes w) b (word_block w) h).cipher_of_inv_cipher;
     } };
-
-    fn block_len(&self) -> usize {
-        Self::WIDTH
-    }
-
-    fn schedule_len(&self) -> usize {
-        Self::SCHEDULE
-    }
 
     fn prepare(&self, word: Word, area: &mut [u8]) {
         aes::key_expansion(&word.to_bytes(), area);
@@ -75,9 +67,9 @@ impl Cipher for Des {
 
     const SCHEDULE: usize = des::SCHEDULE_LEN;
 
-    ghost width = { 8 };
+    ghost WIDTH = { 8 };
 
-    ghost schedule_length = { 128 };
+    ghost SCHEDULE = { 128 };
 
     ghost schedule = { λ s w. key_schedule (des_key w) };
 
@@ -94,14 +86,6 @@ impl Cipher for Des {
       D_E = λ w b h. (inverse (key_schedule (des_key w)) b h).deciphers;
       E_D = λ w b h. (inverse (key_schedule (des_key w)) b h).enciphers;
     } };
-
-    fn block_len(&self) -> usize {
-        Self::WIDTH
-    }
-
-    fn schedule_len(&self) -> usize {
-        Self::SCHEDULE
-    }
 
     fn prepare(&self, word: Word, area: &mut [u8]) {
         let [a, b, c, d, e, f, g, h, ..] = word.to_bytes();

@@ -17,7 +17,7 @@ pub fn rehearse<C: Cipher, T: TailRule, K: Keyring>(
 ) -> Result<(usize, usize), BatchFault>
     ensures answer { result ≡ batch_answer Scramble (meaning C.Cipher T.TailRule profile.now) (keys_of K.Keyring keys.now) (length area.old) batch.old }
     ensures same { batch.new ≡ batch.old }
-    ensures wiped { area.new ≡ (if nat_eq (length area.old) C.Cipher.schedule_length then replicate (length area.old) 0 else area.old) }
+    ensures wiped { area.new ≡ (if nat_eq (length area.old) C.Cipher.SCHEDULE then replicate (length area.old) 0 else area.old) }
 {
     all_bytes(&profile.iv);
     let counts = scramble(profile, keys, area, batch)?;

@@ -35,16 +35,16 @@ pub trait Subject {
 pub struct Block<C>(pub C);
 
 impl<C: Cipher> Subject for Block<C> {
-    ghost turned = { λ s d w b. block_turned C.Cipher.width (C.Cipher.E s.0 w) (C.Cipher.D s.0 w) d b };
+    ghost turned = { λ s d w b. block_turned C.Cipher.WIDTH (C.Cipher.E s.0 w) (C.Cipher.D s.0 w) d b };
 
     ghost objection = { λ s d w b. Ok tt };
 
     fn turn(&self, direction: Direction, word: Word, bytes: &mut [u8]) -> Result<(), Mismatch> {
-        if bytes.len() != self.0.block_len() {
+        if bytes.len() != C::WIDTH {
             return Ok(());
         }
         let mut room = [0; LONGEST_SCHEDULE];
-        let area = &mut room[0..self.0.schedule_len()];
+        let area = &mut room[0..C::SCHEDULE];
         self.0.prepare(word, area);
         match direction {
             Direction::Scramble => self.0.encrypt(area, bytes),
@@ -65,7 +65,7 @@ impl<C: Cipher, T: TailRule> Subject for Payload<C, T> {
 
     fn turn(&self, direction: Direction, word: Word, bytes: &mut [u8]) -> Result<(), Mismatch> {
         let mut room = [0; LONGEST_SCHEDULE];
-        let area = &mut room[0..self.0.cipher.schedule_len()];
+        let area = &mut room[0..C::SCHEDULE];
         self.0.cipher.prepare(word, area);
         // The area is as long as a schedule, so it is not refused.
         let _ = match direction {
@@ -96,7 +96,7 @@ impl<C: Cipher, T: TailRule> Subject for Packet<'_, C, T> {
             parity: self.parity,
         };
         let mut room = [0; LONGEST_SCHEDULE];
-        let area = &mut room[0..self.profile.cipher.schedule_len()];
+        let area = &mut room[0..C::SCHEDULE];
         one_changed(turn_batch(direction, self.profile, &keys, area, bytes))
     }
 }

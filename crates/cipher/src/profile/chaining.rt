@@ -19,14 +19,14 @@ pub struct ScheduleLength {
 impl<C: Cipher, T: TailRule> Profile<C, T> {
     /// Scrambles a payload under the word whose schedule the area holds.
     pub fn scramble_payload(&self, area: &[u8], payload: &mut [u8]) -> Result<(), ScheduleLength>
-        ensures value { result ≡ tested (length area.now) C.Cipher.schedule_length }
+        ensures value { result ≡ tested (length area.now) C.Cipher.SCHEDULE }
         ensures refused { is_ok result ≡ false → payload.new ≡ payload.old }
         ensures after { (w : Word) → area.now ≡ C.Cipher.schedule self.now.cipher w → payload.new ≡ scrambled (meaning C.Cipher T.TailRule self.now) w payload.old }
     {
-        if area.len() != self.cipher.schedule_len() {
+        if area.len() != C::SCHEDULE {
             return Err(ScheduleLength { length: area.len() });
         }
-        let width = self.cipher.block_len();
+        let width = C::WIDTH;
         let mut chain = [0; 16];
         self.start_chain(&mut chain);
         self.chain_blocks(area, &mut chain[0..width], payload);
@@ -35,14 +35,14 @@ impl<C: Cipher, T: TailRule> Profile<C, T> {
 
     /// Descrambles a payload under the word whose schedule the area holds.
     pub fn descramble_payload(&self, area: &[u8], payload: &mut [u8]) -> Result<(), ScheduleLength>
-        ensures value { result ≡ tested (length area.now) C.Cipher.schedule_length }
+        ensures value { result ≡ tested (length area.now) C.Cipher.SCHEDULE }
         ensures refused { is_ok result ≡ false → payload.new ≡ payload.old }
         ensures after { (w : Word) → area.now ≡ C.Cipher.schedule self.now.cipher w → payload.new ≡ descrambled (meaning C.Cipher T.TailRule self.now) w payload.old }
     {
-        if area.len() != self.cipher.schedule_len() {
+        if area.len() != C::SCHEDULE {
             return Err(ScheduleLength { length: area.len() });
         }
-        let width = self.cipher.block_len();
+        let width = C::WIDTH;
         let mut chain = [0; 16];
         self.start_chain(&mut chain);
         self.unchain_blocks(area, &mut chain[0..width], payload);
@@ -58,10 +58,10 @@ impl<C: Cipher, T: TailRule> Profile<C, T> {
 
     // The blocks of the payload from its start, then its tail under the mask E of the last chain value.
     fn chain_blocks(&self, area: &[u8], chain: &mut [u8], payload: &mut [u8])
-        requires { (length area.now ≡ C.Cipher.schedule_length) × (length chain.old ≡ C.Cipher.width) }
-        ensures { (w : Word) → area.now ≡ C.Cipher.schedule self.now.cipher w → payload.new ≡ chained C.Cipher.width (C.Cipher.E self.now.cipher w) (T.TailRule.on self.now.tail) (length payload.old / C.Cipher.width) chain.old payload.old }
+        requires { (length area.now ≡ C.Cipher.SCHEDULE) × (length chain.old ≡ C.Cipher.WIDTH) }
+        ensures { (w : Word) → area.now ≡ C.Cipher.schedule self.now.cipher w → payload.new ≡ chained C.Cipher.WIDTH (C.Cipher.E self.now.cipher w) (T.TailRule.on self.now.tail) (length payload.old / C.Cipher.WIDTH) chain.old payload.old }
     {
-        let width = self.cipher.block_len();
+        let width = C::WIDTH;
         let mut at = 0;
         while payload.len() - at >= width {
             self.chain_block(area, chain, &mut payload[at..at + width]);
@@ -73,10 +73,10 @@ impl<C: Cipher, T: TailRule> Profile<C, T> {
 
     // The blocks of the payload from its start, then its tail under the same mask as when it was scrambled.
     fn unchain_blocks(&self, area: &[u8], chain: &mut [u8], payload: &mut [u8])
-        requires { (length area.now ≡ C.Cipher.schedule_length) × (length chain.old ≡ C.Cipher.width) }
-        ensures { (w : Word) → area.now ≡ C.Cipher.schedule self.now.cipher w → payload.new ≡ unchained C.Cipher.width (C.Cipher.E self.now.cipher w) (C.Cipher.D self.now.cipher w) (T.TailRule.off self.now.tail) (length payload.old / C.Cipher.width) chain.old payload.old }
+        requires { (length area.now ≡ C.Cipher.SCHEDULE) × (length chain.old ≡ C.Cipher.WIDTH) }
+        ensures { (w : Word) → area.now ≡ C.Cipher.schedule self.now.cipher w → payload.new ≡ unchained C.Cipher.WIDTH (C.Cipher.E self.now.cipher w) (C.Cipher.D self.now.cipher w) (T.TailRule.off self.now.tail) (length payload.old / C.Cipher.WIDTH) chain.old payload.old }
     {
-        let width = self.cipher.block_len();
+        let width = C::WIDTH;
         let mut at = 0;
         while payload.len() - at >= width {
             self.unchain_block(area, chain, &mut payload[at..at + width]);
@@ -88,7 +88,7 @@ impl<C: Cipher, T: TailRule> Profile<C, T> {
 
     // The mask in place of the last chain value: E of it, in both directions.
     fn make_mask(&self, area: &[u8], chain: &mut [u8])
-        requires { (length area.now ≡ C.Cipher.schedule_length) × (length chain.old ≡ C.Cipher.width) }
+        requires { (length area.now ≡ C.Cipher.SCHEDULE) × (length chain.old ≡ C.Cipher.WIDTH) }
         ensures { (w : Word) → area.now ≡ C.Cipher.schedule self.now.cipher w → chain.new ≡ C.Cipher.E self.now.cipher w chain.old }
     {
         self.cipher.encrypt(area, chain);
@@ -96,7 +96,7 @@ impl<C: Cipher, T: TailRule> Profile<C, T> {
 
     // E of the block XOR the chain value, which is the next chain value too.
     fn chain_block(&self, area: &[u8], chain: &mut [u8], block: &mut [u8])
-        requires { (length area.now ≡ C.Cipher.schedule_length) × ((length chain.old ≡ C.Cipher.width) × (length block.old ≡ C.Cipher.width)) }
+        requires { (length area.now ≡ C.Cipher.SCHEDULE) × ((length chain.old ≡ C.Cipher.WIDTH) × (length block.old ≡ C.Cipher.WIDTH)) }
         ensures block { (w : Word) → area.now ≡ C.Cipher.schedule self.now.cipher w → block.new ≡ C.Cipher.E self.now.cipher w (xors block.old chain.old) }
         ensures chain { chain.new ≡ block.new }
     {
@@ -107,11 +107,11 @@ impl<C: Cipher, T: TailRule> Profile<C, T> {
 
     // D of the block, XOR the chain value; what the block held is the next chain value.
     fn unchain_block(&self, area: &[u8], chain: &mut [u8], block: &mut [u8])
-        requires { (length area.now ≡ C.Cipher.schedule_length) × ((length chain.old ≡ C.Cipher.width) × (length block.old ≡ C.Cipher.width)) }
+        requires { (length area.now ≡ C.Cipher.SCHEDULE) × ((length chain.old ≡ C.Cipher.WIDTH) × (length block.old ≡ C.Cipher.WIDTH)) }
         ensures block { (w : Word) → area.now ≡ C.Cipher.schedule self.now.cipher w → block.new ≡ xors (C.Cipher.D self.now.cipher w block.old) chain.old }
         ensures chain { chain.new ≡ block.old }
     {
-        let width = self.cipher.block_len();
+        let width = C::WIDTH;
         let mut scrambled = [0; 16];
         let next = &mut scrambled[0..width];
         next.copy_from_slice(block);

@@ -17,7 +17,7 @@ use word::Parity;
 impl<C: Cipher, T: TailRule, S: Shelf> Services<C, T, S> {
     /// An engine under a profile, over a shelf, with no service open.
     pub fn new(heap: Global, profile: Profile<C, T>, shelf: S) -> Services<C, T, S> {
-        let schedule_len = profile.cipher.schedule_len();
+        let schedule_len = C::SCHEDULE;
         let Profile { cipher, tail, iv } = profile;
         Services {
             engine: Engine::make(cipher, tail, iv, shelf, TAG),

@@ -15,7 +15,7 @@ pub fn start<C: Cipher + Drop, T: TailRule + Drop>(
     profile: Profile<C, T>,
     keys: &Keys,
 ) -> Result<Station<C, T>, EngineFault> {
-    let schedule_len = profile.cipher.schedule_len();
+    let schedule_len = C::SCHEDULE;
     let Profile { cipher, tail, iv } = profile;
     let mut engine = Engine::make(cipher, tail, iv, PlainShelf::new(), TAG);
     let grant = engine.open(0)?;

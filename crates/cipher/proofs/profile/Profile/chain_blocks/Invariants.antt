@@ -9,8 +9,8 @@ invariant-loop-payload g l =
     let t = g.T.TailRule in
     (l.at ≤ length l.payload)
     × ((w : Word) → l.area ≡ m.schedule l.self.cipher w →
-    take l.at l.payload ++ chained m.width (m.E l.self.cipher w) (t.on l.self.tail) ((length l.payload - l.at) / m.width) l.chain (drop l.at l.payload)
-    ≡ chained m.width (m.E l.self.cipher w) (t.on l.self.tail) (length l.initial.payload / m.width) l.initial.chain l.initial.payload)
+    take l.at l.payload ++ chained m.WIDTH (m.E l.self.cipher w) (t.on l.self.tail) ((length l.payload - l.at) / m.WIDTH) l.chain (drop l.at l.payload)
+    ≡ chained m.WIDTH (m.E l.self.cipher w) (t.on l.self.tail) (length l.initial.payload / m.WIDTH) l.initial.chain l.initial.payload)
 
 abbrev pub decreases-loop-payload : goal.decreases-loop-payload
 decreases-loop-payload g l = length l.initial.payload - l.at
