@@ -1,6 +1,12 @@
 // What a refusal says, whichever layer it comes from: its number, its layer and two places.
 #![tactic(auto)]
 
+ghost use Rattle.std.specs.Prelude.{◌≡◌, Some};
+ghost use Rattle.fault.specs.Layers.{layer_name};
+ghost use Rattle.fault.specs.Refusals.{without_places};
+
+use std::fmt;
+
 /// The layer that refuses.
 #[derive(Clone, Copy, Debug, PartialEq, Eq)]
 pub enum Layer {
@@ -11,9 +17,24 @@ pub enum Layer {
     Program,
 }
 
+impl fmt::Display for Layer {
+    ghost output = { λ l. Some (layer_name l) };
+
+    fn fmt<W: fmt::Write>(&self, f: &mut fmt::Formatter<W>) -> fmt::Result {
+        f.write_str(match self {
+            Layer::Entry => "entry",
+            Layer::Shelf => "shelf",
+            Layer::Packet => "packet",
+            Layer::Engine => "engine",
+            Layer::Program => "program",
+        })
+    }
+}
+
 /// A fault as a number, a layer and two places, which are 0 and 0 where a fault has none.
 #[derive(Clone, Copy, Debug, PartialEq, Eq)]
 pub struct Refusal {
+    /// A number, not a kind: this is the form that the wire and the operator see. The causes are the layers' own enums.
     pub number: u8,
     pub layer: Layer,
     pub first: u64,
@@ -21,6 +42,18 @@ pub struct Refusal {
 }
 
 impl Refusal {
+    /// A refusal that has no places.
+    pub fn without_places(number: u8, layer: Layer) -> Refusal
+        ensures { result ≡ without_places number layer }
+    {
+        Refusal {
+            number,
+            layer,
+            first: 0,
+            second: 0,
+        }
+    }
+
     /// What the number means, in plain words.
     pub fn meaning(&self) -> &'static str {
         match self.number {
@@ -50,5 +83,12 @@ impl Refusal {
             26 => "the input ends inside a field",
             _ => "unknown",
         }
+    }
+}
+
+/// The number and what it means, as `18 (a group of the word is not eight digits long)`.
+impl fmt::Display for Refusal {
+    fn fmt<W: fmt::Write>(&self, f: &mut fmt::Formatter<W>) -> fmt::Result {
+        write!(f, "{} ({})", self.number, self.meaning())
     }
 }

@@ -9,6 +9,6 @@ mod word;
 
 pub use identifier::Identifier;
 pub use moment::Moment;
-pub use parity::Parity;
+pub use parity::{Parity, ParseParityError};
 pub use service::Service;
 pub use word::Word;

@@ -1,7 +1,9 @@
-ghost use Rattle.std.specs.Prelude.{◌≡◌, ◌<◌, ◌≤◌, MatchOption};
+ghost use Rattle.std.specs.Prelude.{◌≡◌, ℕ, ◌<◌, ◌≤◌, length, slice_index_or, MatchOption};
+
+use std::array;
 
 /// The number of a service, 0 to 31.
-#[derive(Clone, Copy)]
+#[derive(Clone, Copy, PartialEq, Eq)]
 pub struct Service {
     number: u8,
     ghost low: { number ≤ 31 },
@@ -16,6 +18,22 @@ impl Service {
             return None;
         }
         Some(Service { number })
+    }
+
+    /// The 32 services in order.
+    pub fn all() -> [Service; 32]
+        ensures count { length result ≡ 32 }
+        ensures order { (k : ℕ) (d : Service) → k < 32 → (slice_index_or result k d).number ≡ k }
+    {
+        array::from_fn(
+            |number| -> Service
+                requires { number < 32 }
+            {
+                Service {
+                    number: number as u8,
+                }
+            },
+        )
     }
 
     pub fn number(self) -> u8
