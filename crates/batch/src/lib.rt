@@ -9,5 +9,5 @@ mod plan;
 
 pub use faults::BatchFault;
 pub use keyring::Keyring;
-pub use pass::{descramble, scramble};
+pub use pass::{MAX_BATCH_LEN, process};
 pub use plan::{Change, Direction, Objection};

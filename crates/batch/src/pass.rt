@@ -7,47 +7,32 @@ ghost use Rattle.batch.specs.Packets.{packet_at, packets, replaced, first_fault,
 ghost use Rattle.batch.specs.Plan.{keys_of, plan_of};
 ghost use Rattle.batch.specs.Prepared.{Prepared};
 ghost use Rattle.word.specs.declared.word.Word.{Word};
-ghost use Rattle.batch.specs.declared.plan.Direction.TheVariants.{Scramble, Descramble};
 
 use crate::faults::BatchFault;
 use crate::guard::KeyArea;
 use crate::keyring::Keyring;
 use crate::plan::{Change, Direction, Objection, plan};
 use cipher::{Cipher, Profile, TailRule, all_bytes};
-use packet::{Header, PacketFault, ScramblingControl, set_control};
+use packet::{Header, PACKET_LEN, PacketFault, ScramblingControl, set_control};
 use word::{Parity, Word};
 
-const PACKET: usize = 188;
+/// The most bytes of a batch, 64 packets.
+pub const MAX_BATCH_LEN: usize = 64 * PACKET_LEN;
 
-// The most bytes of a batch, 64 packets.
-const LONGEST: usize = 12032;
-
-/// Scrambles the joined packets of a batch, each under the word of its service's picked parity.
+/// Scrambles the joined packets of a batch, each under the word of its service's picked parity,
+/// or descrambles them, each under the word of the parity that it shows.
 /// Answers how many packets were changed, and how many passed.
-pub fn scramble<C: Cipher, T: TailRule, K: Keyring>(
+pub fn process<C: Cipher, T: TailRule, K: Keyring>(
+    direction: Direction,
     profile: &Profile<C, T>,
     keys: &K,
     area: &mut [u8],
     batch: &mut [u8],
 ) -> Result<(usize, usize), BatchFault>
-    ensures { Batched Scramble (meaning C.Cipher T.TailRule profile.now) (keys_of K.Keyring keys.now) area.old batch.old result area.new batch.new }
+    ensures { Batched direction (meaning C.Cipher T.TailRule profile.now) (keys_of K.Keyring keys.now) area.old batch.old result area.new batch.new }
 {
     all_bytes(batch);
-    run(Direction::Scramble, profile, keys, area, batch)
-}
-
-/// Descrambles the joined packets of a batch, each under the word of the parity that it shows.
-/// Answers how many packets were changed, and how many passed.
-pub fn descramble<C: Cipher, T: TailRule, K: Keyring>(
-    profile: &Profile<C, T>,
-    keys: &K,
-    area: &mut [u8],
-    batch: &mut [u8],
-) -> Result<(usize, usize), BatchFault>
-    ensures { Batched Descramble (meaning C.Cipher T.TailRule profile.now) (keys_of K.Keyring keys.now) area.old batch.old result area.new batch.new }
-{
-    all_bytes(batch);
-    run(Direction::Descramble, profile, keys, area, batch)
+    run(direction, profile, keys, area, batch)
 }
 
 // The tests of area and batch, then both passes. The guard wipes the area on every way out but the first.
@@ -66,7 +51,7 @@ fn run<C: Cipher, T: TailRule, K: Keyring>(
         return Err(BatchFault::KeyArea { length: area.len() });
     }
     let guard = KeyArea { bytes: area };
-    if batch.len() % PACKET != 0 || batch.len() > LONGEST {
+    if batch.len() % PACKET_LEN != 0 || batch.len() > MAX_BATCH_LEN {
         return Err(BatchFault::BatchLength {
             length: batch.len(),
         });
@@ -100,7 +85,7 @@ fn test_all<K: Keyring>(direction: Direction, keys: &K, batch: &[u8]) -> Result<
 {
     let n = packet_count(batch);
     for i in 0..n {
-        let header = header_of(&batch[PACKET * i..PACKET * i + PACKET]);
+        let header = header_of(&batch[PACKET_LEN * i..PACKET_LEN * i + PACKET_LEN]);
         match plan(direction, keys, header) {
             Ok(_) => {}
             Err(objection) => {
@@ -217,14 +202,14 @@ fn follow_at<C: Cipher, T: TailRule, K: Keyring>(
     ensures value { result ≡ changes (plan_of direction (keys_of K.Keyring keys.now) (packet_at batch.old i)) }
     ensures prepared { Prepared (C.Cipher.schedule profile.now.cipher) prepared.new area.new }
 {
-    let at = PACKET * i;
+    let at = PACKET_LEN * i;
     follow(
         direction,
         profile,
         keys,
         prepared,
         area,
-        &mut batch[at..at + PACKET],
+        &mut batch[at..at + PACKET_LEN],
     )
 }
 
@@ -232,7 +217,7 @@ fn follow_at<C: Cipher, T: TailRule, K: Keyring>(
 fn packet_count(batch: &[u8]) -> usize
     ensures { result ≡ length batch.now / 188 }
 {
-    batch.len() / PACKET
+    batch.len() / PACKET_LEN
 }
 
 // Does to every packet what its plan says, and counts those changed and those passed.

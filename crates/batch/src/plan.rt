@@ -4,7 +4,7 @@ ghost use Rattle.batch.specs.Plan.{keys_of, with_word, scramble_plan, descramble
 ghost use Rattle.batch.specs.declared.plan.Objection.TheVariants.{BadHeader};
 
 use crate::keyring::Keyring;
-use packet::{Header, HeaderFault, ScramblingControl};
+use packet::{Header, HeaderFault, SYNC_BYTE, ScramblingControl};
 use word::{Parity, Service, Word};
 
 /// Which way a batch goes.
@@ -101,7 +101,7 @@ pub(crate) fn plan<K: Keyring>(
 ) -> Result<Option<Change>, Objection>
     ensures { result ≡ plan_for direction (keys_of K.Keyring keys.now) header }
 {
-    if header.sync != 0x47 {
+    if header.sync != SYNC_BYTE {
         return Err(Objection::BadHeader(HeaderFault::Sync));
     }
     if header.error {

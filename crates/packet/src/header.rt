@@ -3,6 +3,12 @@ ghost use Rattle.packet.specs.Header.{header_of, control_bits, control_of, adapt
 
 use crate::faults::HeaderFault;
 
+/// The length of a packet in bytes.
+pub const PACKET_LEN: usize = 188;
+
+/// Byte 0 of every packet.
+pub const SYNC_BYTE: u8 = 0x47;
+
 /// The two bits that say under which word a payload is scrambled.
 #[derive(Clone, Copy, Debug, PartialEq, Eq)]
 pub enum ScramblingControl {
@@ -64,7 +70,7 @@ impl AdaptationControl {
 /// What the first five bytes of a packet say.
 #[derive(Clone, Copy, Debug, PartialEq, Eq)]
 pub struct Header {
-    /// Byte 0, 0x47 in a packet that is one.
+    /// Byte 0, `SYNC_BYTE` in a packet that is one.
     pub sync: u8,
     /// The bit that marks a transport error.
     pub error: bool,

@@ -4,7 +4,7 @@ ghost use Rattle.batch.specs.Plan.{keys_of};
 ghost use Rattle.batch.specs.declared.plan.Direction.TheVariants.{Scramble};
 ghost use Rattle.cipher.specs.Profiles.{meaning};
 
-use batch::{BatchFault, Keyring, descramble, scramble};
+use batch::{BatchFault, Direction, Keyring, process};
 use cipher::{Cipher, Profile, TailRule, all_bytes};
 
 /// Scrambles a batch and descrambles it again with the same keyring, which leaves it as it was.
@@ -20,7 +20,7 @@ pub fn rehearse<C: Cipher, T: TailRule, K: Keyring>(
     ensures wiped { area.new ≡ (if nat_eq (length area.old) C.Cipher.SCHEDULE then replicate (length area.old) 0 else area.old) }
 {
     all_bytes(&profile.iv);
-    let counts = scramble(profile, keys, area, batch)?;
-    descramble(profile, keys, area, batch)?;
+    let counts = process(Direction::Scramble, profile, keys, area, batch)?;
+    process(Direction::Descramble, profile, keys, area, batch)?;
     Ok(counts)
 }

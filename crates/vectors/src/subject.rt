@@ -1,6 +1,6 @@
 // The parts of the element that are held to vectors.
 ghost use Rattle.std.specs.Prelude.{◌≡◌, ℕ, List, Ok, Result};
-ghost use Rattle.batch.specs.Batches.{payload_after, Batched};
+ghost use Rattle.batch.specs.Batches.{payload_after};
 ghost use Rattle.batch.specs.declared.plan.Direction.{Direction};
 ghost use Rattle.cipher.specs.Profiles.{meaning};
 ghost use Rattle.word.specs.declared.word.Word.{Word};
@@ -97,23 +97,13 @@ impl<C: Cipher, T: TailRule> Subject for Packet<'_, C, T> {
         };
         let mut room = [0; LONGEST_SCHEDULE];
         let area = &mut room[0..C::SCHEDULE];
-        one_changed(turn_batch(direction, self.profile, &keys, area, bytes))
-    }
-}
-
-// Scrambles or descrambles a batch.
-fn turn_batch<C: Cipher, T: TailRule>(
-    direction: Direction,
-    profile: &Profile<C, T>,
-    keys: &OneWord,
-    area: &mut [u8],
-    batch: &mut [u8],
-) -> Result<(usize, usize), BatchFault>
-    ensures { Batched direction (meaning C.Cipher T.TailRule profile.now) (one_word keys.now.word keys.now.pid keys.now.parity) area.old batch.old result area.new batch.new }
-{
-    match direction {
-        Direction::Scramble => batch::scramble(profile, keys, area, batch),
-        Direction::Descramble => batch::descramble(profile, keys, area, batch),
+        one_changed(batch::process(
+            direction,
+            self.profile,
+            &keys,
+            area,
+            bytes,
+        ))
     }
 }
 

@@ -13,7 +13,7 @@ use crate::desk::{Desk, Slot};
 use crate::engine::Engine;
 use crate::faults::EngineFault;
 use crate::grant::{Grant, Unclosed};
-use batch::Keyring;
+use batch::{Direction, Keyring};
 use cipher::{Cipher, Profile, TailRule, all_bytes};
 use shelf::Shelf;
 use word::{Moment, Parity, Service};
@@ -199,14 +199,7 @@ impl<C: Cipher, T: TailRule, S: Shelf> Engine<C, T, S> {
         ensures does { Batches Scramble (model_of C.Cipher T.TailRule S.Shelf self.now) area.old batch.old result area.new batch.new (model_of C.Cipher T.TailRule S.Shelf self.now) }
         ensures runs { (given : Given) (calls : List Call) → Run (model_of C.Cipher T.TailRule S.Shelf) given calls self.now → Run (model_of C.Cipher T.TailRule S.Shelf) given (scrambles area.old batch.old result area.new batch.new ∷ calls) self.now }
     {
-        self.try_scramble(area, batch)
-    }
-
-    fn try_scramble(&self, area: &mut [u8], batch: &mut [u8]) -> Result<(usize, usize), EngineFault>
-        ensures { Batches Scramble (model_of C.Cipher T.TailRule S.Shelf self.now) area.old batch.old result area.new batch.new (model_of C.Cipher T.TailRule S.Shelf self.now) }
-    {
-        let counts = batch::scramble(&self.profile, &self.desk, area, batch)?;
-        Ok(counts)
+        self.process(Direction::Scramble, area, batch)
     }
 
     /// Descrambles the joined packets of a batch. Answers how many were changed, and how many passed.
@@ -218,17 +211,18 @@ impl<C: Cipher, T: TailRule, S: Shelf> Engine<C, T, S> {
         ensures does { Batches Descramble (model_of C.Cipher T.TailRule S.Shelf self.now) area.old batch.old result area.new batch.new (model_of C.Cipher T.TailRule S.Shelf self.now) }
         ensures runs { (given : Given) (calls : List Call) → Run (model_of C.Cipher T.TailRule S.Shelf) given calls self.now → Run (model_of C.Cipher T.TailRule S.Shelf) given (descrambles area.old batch.old result area.new batch.new ∷ calls) self.now }
     {
-        self.try_descramble(area, batch)
+        self.process(Direction::Descramble, area, batch)
     }
 
-    fn try_descramble(
+    fn process(
         &self,
+        direction: Direction,
         area: &mut [u8],
         batch: &mut [u8],
     ) -> Result<(usize, usize), EngineFault>
-        ensures { Batches Descramble (model_of C.Cipher T.TailRule S.Shelf self.now) area.old batch.old result area.new batch.new (model_of C.Cipher T.TailRule S.Shelf self.now) }
+        ensures { Batches direction (model_of C.Cipher T.TailRule S.Shelf self.now) area.old batch.old result area.new batch.new (model_of C.Cipher T.TailRule S.Shelf self.now) }
     {
-        let counts = batch::descramble(&self.profile, &self.desk, area, batch)?;
+        let counts = batch::process(direction, &self.profile, &self.desk, area, batch)?;
         Ok(counts)
     }
 }

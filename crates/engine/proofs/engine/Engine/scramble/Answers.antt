@@ -2,4 +2,4 @@ use Rattle.engine.specs.Runs.{more}
 use Rattle.engine.proofs.engine.Engine.scramble.Goals as goal
 
 pub returns : goal.returns
-returns g c = record { does = c.try_scramble.ensures; runs = λ given calls run. more run c.try_scramble.ensures }
+returns g c = record { does = c.process.ensures; runs = λ given calls run. more run c.process.ensures }
