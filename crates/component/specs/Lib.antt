@@ -1,3 +1,2 @@
-pub mod Leavings
 pub mod Rows
 pub mod Table

@@ -1,5 +1,5 @@
 -- What a table holds and what its calls answer.
-use Rattle.std.specs.Prelude.{ℕ, cond, not, ◌||◌, List, length, take, is_some, Some, None, Ok, Err, filter, Option, Result, ◌==◌, nat_lt}
+use Rattle.std.specs.Prelude.{ℕ, cond, not, ◌||◌, List, length, is_some, Some, None, Ok, Err, filter, Option, Result, ◌==◌, nat_lt}
 use Rattle.component.specs.Rows.{joined_in}
 use Rattle.component.specs.declared.component.Component.{Component}
 use Rattle.component.specs.declared.components.Components.{Components}
@@ -8,7 +8,7 @@ use Rattle.component.specs.declared.faults.ComponentFault.TheVariants.{OutOfRang
 
 -- the components of a table, in the order in which they were added
 unfoldable pub components_of : Components → List Component
-components_of t = take t.len t.rows
+components_of t = t.rows.items
 
 -- the number of the service that a PID is joined to
 unfoldable pub joined : Components → ℕ → Option ℕ

@@ -1,16 +1,14 @@
 // What the table is. `calls` has what it does.
-ghost use Rattle.component.specs.Rows.{Long, Few, Apart};
+ghost use Rattle.component.specs.Rows.{Apart};
 
 use crate::component::Component;
+use arrayvec::ArrayVec;
 
 mod calls;
 
-/// The components of an engine: the first `len` rows, of which no two have the same PID.
+/// The components of an engine, in the order in which they were added. No two have the same PID.
 #[derive(Drop)]
 pub struct Components {
-    rows: [Component; 64],
-    len: usize,
-    ghost long: { Long rows },
-    ghost few: { Few len },
-    ghost apart: { Apart rows len },
+    rows: ArrayVec<Component, 64>,
+    ghost apart: { Apart rows.items },
 }

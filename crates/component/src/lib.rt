@@ -4,7 +4,6 @@
 mod component;
 mod components;
 mod faults;
-mod leaving;
 #[cfg(test)]
 mod tests;
 

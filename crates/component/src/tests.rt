@@ -3,18 +3,12 @@ use std::test::Fail;
 use word::Service;
 
 fn service(number: u8) -> Result<Service, Fail> {
-    match Service::new(number) {
-        Some(service) => Ok(service),
-        None => Err(Fail::new("no such service")),
-    }
+    Service::new(number).ok_or_else(|| Fail::new("no such service"))
 }
 
 /// The number of the service that the PID is joined to.
 fn number_of(table: &Components, pid: u16) -> Option<u8> {
-    match table.service_of(pid) {
-        Some(service) => Some(service.number()),
-        None => None,
-    }
+    table.service_of(pid).map(|service| service.number())
 }
 
 #[test]

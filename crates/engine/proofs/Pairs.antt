@@ -2,6 +2,8 @@
 use Rattle.std.proofs.Common.{◌≡◌, ℕ, Bool, true, false, cond, not, ◌&&◌, ◌||◌, eqb, ltb, List, [], ◌∷◌, ◌++◌, map, length, is_some, is_ok, Some, None, Ok, Err, filter, Option, Result, sym, refl, ap, ◌∙◌}
 use mathlib.Core.List.{map-append}
 use lib.ListN.{length-map}
+use Rattle.std.specs.List.{find}
+use Rattle.std.specs.Option.{option_map}
 use Rattle.std.proofs.lemmas.Bool.{eqb-true, true≢false}
 use Rattle.component.specs.Rows.{joined_in}
 use Rattle.component.specs.Table.{components_of, joined, count, add_answer, other_pids, other_services}
@@ -37,14 +39,15 @@ without_pid : (before after : Components) (pid : ℕ) → components_of after �
 without_pid before after pid e = ap (map pair) e ∙ map_kept pair (λ c. not (eqb c.0 pid)) (components_of before)
 
 -- a PID that is not joined has no component
-others_first : (b : Bool) (c : Component) (n : ℕ) (o : Option ℕ) (rest cs : List Component) → is_some (cond b (Some n) o) ≡ false → (is_some o ≡ false → rest ≡ cs) → cond (not b) (c ∷ rest) rest ≡ c ∷ cs
-others_first true c n o rest cs e ih = absurd (true≢false e)
-others_first false c n o rest cs e ih = ap (λ (l : List Component). c ∷ l) (ih e)
+others_first : (number : Component → ℕ) (b : Bool) (c : Component) (o : Option Component) (rest cs : List Component) → is_some (option_map number (cond b (Some c) o)) ≡ false
+    → (is_some (option_map number o) ≡ false → rest ≡ cs) → cond (not b) (c ∷ rest) rest ≡ c ∷ cs
+others_first number true c o rest cs e ih = absurd (true≢false e)
+others_first number false c o rest cs e ih = ap (λ (l : List Component). c ∷ l) (ih e)
 
 others_all : (cs : List Component) (pid : ℕ) → is_some (joined_in cs pid) ≡ false → other_pids pid cs ≡ cs
 others_all [] pid e = refl
 others_all (c ∷ cs) pid e =
-    others_first (eqb c.pid pid) c c.service.number (joined_in cs pid) (other_pids pid cs) cs e (others_all cs pid)
+    others_first (λ x. x.service.number) (eqb c.pid pid) c (find (λ x. eqb x.pid pid) cs) (other_pids pid cs) cs e (others_all cs pid)
 
 kept_none : (o : Option ℕ) → is_some o ≡ false → None ≡ o
 kept_none None e = refl
