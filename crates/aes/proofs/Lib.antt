@@ -3,6 +3,7 @@ pub mod Columns
 pub mod FieldLaws
 pub mod Words
 pub mod KeyWords
+pub mod RoundKeys
 pub mod Rows
 pub mod Tables
 pub mod Undone

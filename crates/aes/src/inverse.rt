@@ -8,7 +8,7 @@ ghost use Rattle.aes.specs.Words.{column_of, diagonal, state_bytes, word_bytes};
 
 use crate::inv_mix_table::inv_mixed;
 use crate::inv_s_box::inv_sub_byte;
-use crate::state::{State, turned_sum};
+use crate::state::{State, round_keys, turned_sum};
 
 // A column after InvShiftRows, InvSubBytes and AddRoundKey, from the four columns that InvShiftRows takes its bytes from.
 fn inv_column(a: u32, b: u32, c: u32, d: u32, key: u32) -> u32
@@ -60,9 +60,12 @@ pub fn inv_cipher(schedule: &[u8], block: &mut [u8])
     requires { (length schedule.now ≡ 176) × (length block.old ≡ 16) }
     ensures { block.new ≡ inv_cipher schedule.now block.old }
 {
-    let mut state = State::load(block).add_round_key(State::round_key(schedule, 10));
-    for round in (1..10).rev() {
-        state = inv_cipher_round(state, State::round_key(schedule, round));
+    let keys = round_keys(schedule);
+    let input = State::from_bytes(block.as_array().unwrap());
+    let mut state = input.add_round_key(State::from_bytes(&keys[10]));
+    for key in keys[1..10].iter().rev() {
+        state = inv_cipher_round(state, State::from_bytes(key));
     }
-    last_inv_round(state, State::round_key(schedule, 0)).store(block);
+    let output = last_inv_round(state, State::from_bytes(&keys[0]));
+    block.copy_from_slice(&output.to_bytes());
 }

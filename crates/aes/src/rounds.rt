@@ -7,7 +7,7 @@ ghost use Rattle.aes.specs.Words.{column_of, diagonal, state_bytes, word_bytes};
 
 use crate::mix_table::mixed_s_box;
 use crate::s_box::sub_byte;
-use crate::state::{State, turned_sum};
+use crate::state::{State, round_keys, turned_sum};
 
 // A column after a round, from the four columns that ShiftRows takes its bytes from.
 fn round_column(a: u32, b: u32, c: u32, d: u32, key: u32) -> u32
@@ -62,9 +62,12 @@ pub fn cipher(schedule: &[u8], block: &mut [u8])
     requires { (length schedule.now ≡ 176) × (length block.old ≡ 16) }
     ensures { block.new ≡ cipher schedule.now block.old }
 {
-    let mut state = State::load(block).add_round_key(State::round_key(schedule, 0));
-    for round in 1..10 {
-        state = cipher_round(state, State::round_key(schedule, round));
+    let keys = round_keys(schedule);
+    let input = State::from_bytes(block.as_array().unwrap());
+    let mut state = input.add_round_key(State::from_bytes(&keys[0]));
+    for key in &keys[1..10] {
+        state = cipher_round(state, State::from_bytes(key));
     }
-    last_round(state, State::round_key(schedule, 10)).store(block);
+    let output = last_round(state, State::from_bytes(&keys[10]));
+    block.copy_from_slice(&output.to_bytes());
 }

@@ -1,6 +1,7 @@
 // A state as four words, one for each column, with the byte in row 0 lowest.
-ghost use Rattle.std.specs.Prelude.{◌≡◌, ◌+◌, ◌<◌, [], ◌∷◌, length, slice_index};
-ghost use Rattle.aes.specs.Rounds.{add_round_key, round_key};
+ghost use Rattle.std.specs.Prelude.{◌≡◌, length};
+ghost use Rattle.std.specs.Simd.{first_chunks};
+ghost use Rattle.aes.specs.Rounds.{add_round_key};
 ghost use Rattle.aes.specs.State.{xor_bytes};
 ghost use Rattle.aes.specs.Words.{state_bytes, turned, word_bytes};
 
@@ -12,14 +13,6 @@ pub struct State {
     pub c3: u32,
 }
 
-// The word of the four bytes from place `j` on.
-fn word_from(s: &[u8], j: usize) -> u32
-    requires { j + 3 < length s.now }
-    ensures { word_bytes result ≡ slice_index s.now j ∷ slice_index s.now (j + 1) ∷ slice_index s.now (j + 2) ∷ slice_index s.now (j + 3) ∷ [] }
-{
-    u32::from_le_bytes([s[j], s[j + 1], s[j + 2], s[j + 3]])
-}
-
 // The sum of four columns, each turned one row further down.
 pub fn turned_sum(w: u32, x: u32, y: u32, z: u32) -> u32
     ensures { word_bytes result ≡ xor_bytes (xor_bytes (xor_bytes (word_bytes w) (turned 1 (word_bytes x))) (turned 2 (word_bytes y))) (turned 3 (word_bytes z)) }
@@ -27,37 +20,38 @@ pub fn turned_sum(w: u32, x: u32, y: u32, z: u32) -> u32
     w ^ x.rotate_left(8) ^ y.rotate_left(16) ^ z.rotate_left(24)
 }
 
+// The round keys of a key schedule.
+pub fn round_keys(schedule: &[u8]) -> &[[u8; 16]; 11]
+    requires { length schedule.now ≡ 176 }
+    ensures { result.now ≡ first_chunks 16 11 schedule.now }
+{
+    let (keys, _) = schedule.as_chunks::<16>();
+    keys.as_array::<11>().unwrap()
+}
+
 impl State {
     // The state of a block.
-    pub fn load(block: &[u8]) -> State
-        requires { length block.now ≡ 16 }
+    pub fn from_bytes(block: &[u8; 16]) -> State
         ensures { state_bytes result ≡ block.now }
     {
+        let [a, b, c, d, e, f, g, h, i, j, k, l, m, n, o, p] = *block;
         State {
-            c0: word_from(block, 0),
-            c1: word_from(block, 4),
-            c2: word_from(block, 8),
-            c3: word_from(block, 12),
+            c0: u32::from_le_bytes([a, b, c, d]),
+            c1: u32::from_le_bytes([e, f, g, h]),
+            c2: u32::from_le_bytes([i, j, k, l]),
+            c3: u32::from_le_bytes([m, n, o, p]),
         }
     }
 
-    // Writes the state over a block.
-    pub fn store(self, block: &mut [u8])
-        requires { length block.old ≡ 16 }
-        ensures { block.new ≡ state_bytes self }
+    // The block of a state.
+    pub fn to_bytes(self) -> [u8; 16]
+        ensures { result ≡ state_bytes self }
     {
-        block[0..4].copy_from_slice(&self.c0.to_le_bytes());
-        block[4..8].copy_from_slice(&self.c1.to_le_bytes());
-        block[8..12].copy_from_slice(&self.c2.to_le_bytes());
-        block[12..16].copy_from_slice(&self.c3.to_le_bytes());
-    }
-
-    // The round key of `round`.
-    pub fn round_key(schedule: &[u8], round: usize) -> State
-        requires { (length schedule.now ≡ 176) × (round < 11) }
-        ensures { state_bytes result ≡ round_key schedule.now round }
-    {
-        State::load(&schedule[16 * round..16 * round + 16])
+        let [a, b, c, d] = self.c0.to_le_bytes();
+        let [e, f, g, h] = self.c1.to_le_bytes();
+        let [i, j, k, l] = self.c2.to_le_bytes();
+        let [m, n, o, p] = self.c3.to_le_bytes();
+        [a, b, c, d, e, f, g, h, i, j, k, l, m, n, o, p]
     }
 
     // AddRoundKey.
