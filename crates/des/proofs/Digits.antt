@@ -1,5 +1,5 @@
 -- A number and its digits of some bits each: each makes the other.
-use Rattle.std.proofs.Common.{◌≡◌, ℕ, zero, suc, ◌+◌, ◌-◌, ◌*◌, ◌/◌, ◌%◌, ◌^◌, ◌<◌, ◌≤◌, List, [], ◌∷◌, ◌++◌, map, length, get_or, take, drop, fold, sym, refl, ap, ◌∙◌, ap₂, mod-lt, mul_assoc, add-mul, mul-zero, mul-one, mul-suc, div-one, arith, length-drop, pow_pos, pow-add, shl_exact, shr-shr}
+use Rattle.std.proofs.Common.{◌≡◌, ℕ, zero, suc, ◌+◌, ◌-◌, ◌*◌, ◌/◌, ◌%◌, ◌^◌, ◌<◌, ◌≤◌, List, [], ◌∷◌, ◌++◌, map, length, get_or, take, drop, fold, sym, refl, ap, ◌∙◌, ap₂, mod-lt, mul_assoc, add-mul, mul-zero, mul-one, mul-suc, div-one, arith, length-drop, pow_pos, pow-add, shl_exact, shr-shr, w64}
 use native.Mathlib.Nat.{div-eq_of_lt, sub_self}
 use lib.Arith.{digits_lt}
 use lib.Bits.{bit_or, or_shifted}
@@ -9,6 +9,8 @@ use Rattle.std.proofs.lemmas.List.FromFn.{map-range_with_len_more, length-map-ra
 use Rattle.std.proofs.ByRecursion.{All-drop, All-get_or}
 use Rattle.std.proofs.lemmas.List.{take-append-drop, take_more, ext_get_or}
 use Rattle.std.proofs.lemmas.List.Sums.{fold_push}
+use Rattle.std.proofs.lemmas.Nat.{be_bytes_8}
+use Rattle.std.specs.Int.{from_be_bytes, to_be_bytes}
 use Rattle.des.specs.Bits.{number, groups}
 
 -- one digit more at the right
@@ -110,3 +112,11 @@ number_groups w n x h = fronts w n x n h (omega arith) ∙ ap (λ j. x / 2 ^ (w 
 -- a digit of k bits put after j bits, at a type of v bits
 pub appended : (v j k a d : ℕ) → a < 2 ^ j → d < 2 ^ k → j + k ≤ v → bit_or (a * 2 ^ k % 2 ^ v) d ≡ a * 2 ^ k + d
 appended v j k a d h l b = ap (λ n. bit_or n d) (shl_exact j k v h b) ∙ or_shifted a k d l
+
+-- the bytes that `to_be_bytes` makes of a number, and the number that `from_be_bytes` makes of eight bytes
+pub bytes_number : (n : ℕ) → to_be_bytes w64 n ≡ groups 8 8 n
+unfolding groups
+bytes_number n = rw (div-one n)
+
+pub number_bytes : (s : List ℕ) (n : ℕ) → length s ≡ 8 → ((i : ℕ) → get_or s i 0 < 256) → n < 2 ^ 64 → n ≡ from_be_bytes w64 s → n ≡ number 8 s
+number_bytes s n l small h e = sym (number_groups 8 8 n h) ∙ ap (number 8) (sym (bytes_number n) ∙ be_bytes_8 s n l small e)

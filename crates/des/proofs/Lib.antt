@@ -5,6 +5,7 @@ pub mod Keys
 pub mod Lawfulness
 pub mod Parity
 pub mod Permutations
+pub mod RoundKeys
 pub mod Selections
 pub mod Shifts
 pub mod Tested

@@ -1,29 +1,17 @@
 // Numbers as rows of bits, the leftmost bit most significant.
-ghost use Rattle.std.specs.Prelude.{◌≡◌, ℕ, ◌+◌, ◌-◌, ◌*◌, ◌^◌, ◌<◌, ◌≤◌, length};
+ghost use Rattle.std.specs.Prelude.{◌≡◌, ◌+◌, ◌-◌, ◌*◌, ◌^◌, ◌<◌, ◌≤◌, length};
 ghost use Rattle.std.specs.List.{flat_map, AllByRecursion};
-ghost use Rattle.des.specs.Bits.{number, groups, permuted};
+ghost use Rattle.des.specs.Bits.{groups, permuted};
 
-// The number of eight bytes.
-pub fn load(bytes: &[u8]) -> u64
-    requires { length bytes.now ≡ 8 }
-    ensures { result ≡ number 8 bytes.now }
+// A number as eight groups of six bits, the leftmost first.
+pub fn groups_of_six(x: u64) -> [u8; 8]
+    ensures { result ≡ groups 6 8 x }
 {
-    let mut x = 0;
-    for b in bytes {
-        x = (x << 8) | u64::from(*b);
+    let mut groups = [0; 8];
+    for (i, group) in groups.iter_mut().enumerate() {
+        *group = ((x >> (42 - 6 * i)) & 63) as u8;
     }
-    x
-}
-
-// Writes eight groups of `width` bits, the leftmost first.
-pub fn store(x: u64, width: u32, out: &mut [u8])
-    requires { (length out.old ≡ 8) × (width ≤ 8) }
-    ensures { out.new ≡ groups width 8 x }
-{
-    let mask = (1 << width) - 1;
-    for i in 0..8 {
-        out[i] = ((x >> (width * (7 - i as u32))) & mask) as u8;
-    }
+    groups
 }
 
 // The bits of a number of `width` bits that a row names, put after `y`.

@@ -1,29 +1,57 @@
 // Enciphering and deciphering a block of eight bytes in place, under a schedule of sixteen round keys.
-ghost use Rattle.std.specs.Prelude.{◌≡◌, ◌<◌, length};
-ghost use Rattle.des.specs.Cipher.{round_key, enciphered, deciphered};
+ghost use Rattle.std.specs.Prelude.{◌≡◌, fold, length, reverse};
+ghost use Rattle.std.specs.Simd.{first_chunks};
+ghost use Rattle.des.specs.Bits.{number, groups};
+ghost use Rattle.des.specs.Cipher.{IP, IP⁻¹, halves, preoutput, round, enciphered, deciphered};
 
-use super::bits::{load, store};
 use super::feistel::Halves;
 use super::tables::{initial_permutation, inverse_permutation};
 
-// A round key of the schedule, K1 at 0.
-fn round_key(schedule: &[u8], n: usize) -> &[u8]
-    requires { (length schedule.now ≡ 128) × (n < 16) }
-    ensures key { result.now ≡ round_key schedule.now n }
-    ensures len { length result.now ≡ 8 }
+// The round keys of a schedule, K1 first.
+fn round_keys(schedule: &[u8]) -> &[[u8; 8]]
+    requires { length schedule.now ≡ 128 }
+    ensures { result.now ≡ first_chunks 8 16 schedule.now }
 {
-    &schedule[8 * n..8 * n + 8]
+    let (keys, _) = schedule.as_chunks::<8>();
+    keys
+}
+
+// The halves of a block after the initial permutation.
+fn input(block: &[u8]) -> Halves
+    requires { length block.now ≡ 8 }
+    ensures { result ≡ halves (IP (number 8 block.now)) }
+{
+    let bytes = block.as_array::<8>().unwrap();
+    Halves::of(initial_permutation(u64::from_be_bytes(*bytes)))
+}
+
+// The block that comes of the halves after the last round.
+fn output(halves: Halves) -> [u8; 8]
+    ensures { result ≡ groups 8 8 (IP⁻¹ (preoutput halves)) }
+{
+    inverse_permutation(halves.exchanged()).to_be_bytes()
+}
+
+// The halves after a round under each of some round keys, in their order.
+fn forwards(keys: &[[u8; 8]], halves: Halves) -> Halves
+    ensures { result ≡ fold (λ h k. round k h) halves keys.now }
+{
+    keys.iter().fold(halves, |h, key| h.after_round(key))
+}
+
+// The same from the last of them to the first.
+fn backwards(keys: &[[u8; 8]], halves: Halves) -> Halves
+    ensures { result ≡ fold (λ h k. round k h) halves (reverse keys.now) }
+{
+    keys.iter().rev().fold(halves, |h, key| h.after_round(key))
 }
 
 pub fn encipher(schedule: &[u8], block: &mut [u8])
     requires { (length schedule.now ≡ 128) × (length block.old ≡ 8) }
     ensures { block.new ≡ enciphered schedule.now block.old }
 {
-    let mut halves = Halves::of(initial_permutation(load(block)));
-    for n in 0..16 {
-        halves = halves.after_round(round_key(schedule, n));
-    }
-    store(inverse_permutation(halves.exchanged()), 8, block);
+    let halves = forwards(round_keys(schedule), input(block));
+    block.copy_from_slice(&output(halves));
 }
 
 // The same with the round keys from the last to the first.
@@ -31,9 +59,6 @@ pub fn decipher(schedule: &[u8], block: &mut [u8])
     requires { (length schedule.now ≡ 128) × (length block.old ≡ 8) }
     ensures { block.new ≡ deciphered schedule.now block.old }
 {
-    let mut halves = Halves::of(initial_permutation(load(block)));
-    for n in 0..16 {
-        halves = halves.after_round(round_key(schedule, 15 - n));
-    }
-    store(inverse_permutation(halves.exchanged()), 8, block);
+    let halves = backwards(round_keys(schedule), input(block));
+    block.copy_from_slice(&output(halves));
 }

@@ -1,7 +1,8 @@
 // The halves of a block, and the round that changes them.
-ghost use Rattle.std.specs.Prelude.{◌≡◌, length};
+ghost use Rattle.std.specs.Prelude.{◌≡◌};
 ghost use Rattle.des.specs.Cipher.{f, halves, preoutput, round};
 
+use super::bits::groups_of_six;
 use super::tables::{expand, permutation, select};
 
 // L and R, of 32 bits each.
@@ -12,15 +13,13 @@ pub struct Halves {
 }
 
 // The cipher function f(R, K), where K is eight groups of six bits.
-fn cipher_function(right: u32, key: &[u8]) -> u32
-    requires { length key.now ≡ 8 }
+fn cipher_function(right: u32, key: &[u8; 8]) -> u32
     ensures { result ≡ f right key.now }
 {
-    let expanded = expand(right);
+    let groups = groups_of_six(expand(right));
     let mut selected = 0;
-    for i in 0..8 {
-        let group = ((expanded >> (6 * (7 - i))) & 63) as u8;
-        selected = (selected << 4) | u32::from(select(i, group ^ key[i]));
+    for (i, k) in key.iter().enumerate() {
+        selected = (selected << 4) | u32::from(select(i, groups[i] ^ *k));
     }
     permutation(selected)
 }
@@ -36,8 +35,7 @@ impl Halves {
         }
     }
 
-    pub fn after_round(self, key: &[u8]) -> Halves
-        requires { length key.now ≡ 8 }
+    pub fn after_round(self, key: &[u8; 8]) -> Halves
         ensures { result ≡ round key.now self }
     {
         Halves {
@@ -50,6 +48,6 @@ impl Halves {
     pub fn exchanged(self) -> u64
         ensures { result ≡ preoutput self }
     {
-        (self.right as u64) << 32 | self.left as u64
+        u64::from(self.right) << 32 | u64::from(self.left)
     }
 }

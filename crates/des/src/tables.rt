@@ -1,8 +1,7 @@
 // The tables of FIPS 46-3, and the functions that read them. Bits are numbered from 1 at the left.
-ghost use Rattle.std.specs.Prelude.{◌≡◌, ◌<◌, slice_index};
+ghost use Rattle.std.specs.Prelude.{◌≡◌, ◌<◌};
 ghost use Rattle.des.specs.Cipher.{IP, IP⁻¹, E, P, S};
 ghost use Rattle.des.specs.Schedule.{PC_1, PC_2};
-ghost use Rattle.des.specs.Tables.{left_shifts};
 
 use super::bits::permute;
 
@@ -79,7 +78,7 @@ const PERMUTED_CHOICE_2: [[u8; 6]; 8] = [
 ];
 
 // How many places the halves of the key are shifted to the left, round by round.
-const LEFT_SHIFTS: [u8; 16] = [1, 1, 2, 2, 2, 2, 2, 2, 1, 2, 2, 2, 2, 2, 2, 1];
+pub const LEFT_SHIFTS: [u32; 16] = [1, 1, 2, 2, 2, 2, 2, 2, 1, 2, 2, 2, 2, 2, 2, 1];
 
 // The selection functions S1 to S8, each by rows.
 const SELECTION: [[[u8; 16]; 4]; 8] = [
@@ -149,14 +148,14 @@ pub fn inverse_permutation(x: u64) -> u64
 pub fn expand(half: u32) -> u64
     ensures { result ≡ E half }
 {
-    permute(32, &BIT_SELECTION, half as u64)
+    permute(32, &BIT_SELECTION, u64::from(half))
 }
 
 // The permutation P.
 pub fn permutation(x: u32) -> u32
     ensures { result ≡ P x }
 {
-    permute(32, &PERMUTATION, x as u64) as u32
+    permute(32, &PERMUTATION, u64::from(x)) as u32
 }
 
 // The selection function of a group of six bits, S1 at 0. Only the lowest six bits of `group` are looked at.
@@ -166,7 +165,7 @@ pub fn select(i: usize, group: u8) -> u8
 {
     let row = (group >> 5) % 2 * 2 + group % 2;
     let column = (group >> 1) % 16;
-    SELECTION[i][row as usize][column as usize]
+    SELECTION[i][usize::from(row)][usize::from(column)]
 }
 
 pub fn permuted_choice_1(key: u64) -> u64
@@ -179,12 +178,4 @@ pub fn permuted_choice_2(x: u64) -> u64
     ensures { result ≡ PC_2 x }
 {
     permute(56, &PERMUTED_CHOICE_2, x)
-}
-
-// How far the halves of the key are shifted before the round key K1 (at 0) to K16.
-pub fn left_shift(n: usize) -> u32
-    requires { n < 16 }
-    ensures { result ≡ slice_index left_shifts n }
-{
-    LEFT_SHIFTS[n] as u32
 }
