@@ -2,6 +2,8 @@ ghost use Rattle.std.specs.Prelude.{◌≡◌};
 ghost use Rattle.word.specs.Identifiers.{identifier_bytes, unwrapped};
 ghost use Rattle.word.specs.Words.{identifier_of};
 
+use crate::halves::{bytes_of_halves, halves_of};
+
 /// A receiver's secret identifier: 16 bytes like a word, and never one. No call answers what it holds.
 #[derive(Clone, Copy)]
 pub struct Identifier {
@@ -21,20 +23,15 @@ impl Identifier {
     pub fn from_bytes(bytes: &[u8; 16]) -> Identifier
         ensures { result ≡ identifier_of bytes.now }
     {
-        let [a, b, c, d, e, f, g, h, i, j, k, l, m, n, o, p] = *bytes;
-        Identifier {
-            high: u64::from_be_bytes([a, b, c, d, e, f, g, h]),
-            low: u64::from_be_bytes([i, j, k, l, m, n, o, p]),
-        }
+        let (high, low) = halves_of(bytes);
+        Identifier { high, low }
     }
 
     /// The key that the identifier is, for this file alone.
     fn key(&self) -> [u8; 16]
         ensures { result ≡ identifier_bytes self.now }
     {
-        let [a, b, c, d, e, f, g, h] = self.high.to_be_bytes();
-        let [i, j, k, l, m, n, o, p] = self.low.to_be_bytes();
-        [a, b, c, d, e, f, g, h, i, j, k, l, m, n, o, p]
+        bytes_of_halves(self.high, self.low)
     }
 
     /// The session word that an encrypted session word stands for: the entry decrypted by AES-128 under the identifier.
@@ -43,7 +40,7 @@ impl Identifier {
     pub fn unwrap(&self, entry: &[u8; 16]) -> [u8; 16]
         ensures { result ≡ unwrapped self.now entry.now }
     {
-        let mut schedule = [0; 176];
+        let mut schedule = [0; aes::SCHEDULE_LEN];
         aes::key_expansion(&self.key(), &mut schedule);
         let mut word = *entry;
         aes::inv_cipher(&schedule, &mut word);

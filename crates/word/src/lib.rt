@@ -1,6 +1,7 @@
 // The values that every layer speaks of: words, identifiers, parities, services and moments.
 #![tactic(auto)]
 
+mod halves;
 mod identifier;
 mod moment;
 mod parity;

@@ -9,6 +9,7 @@ pub struct Moment {
 
 impl Moment {
     /// The moment of that many seconds, or nothing above 4,000,000,000.
+    // An Option and no TryFrom, as of `Service::new`.
     pub fn new(seconds: u32) -> Option<Moment>
         ensures { MatchOption result (4000000000 < seconds) (λ m. m.seconds ≡ seconds) }
     {

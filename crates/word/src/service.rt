@@ -11,6 +11,7 @@ pub struct Service {
 
 impl Service {
     /// The service of that number, or nothing above 31.
+    // An Option and no TryFrom: there is one way to fail, and each caller names it by a fault of its own.
     pub fn new(number: u8) -> Option<Service>
         ensures { MatchOption result (31 < number) (λ s. s.number ≡ number) }
     {

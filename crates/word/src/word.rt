@@ -1,7 +1,10 @@
 ghost use Rattle.std.specs.Prelude.{◌≡◌};
 ghost use Rattle.word.specs.Words.{word_of, word_bytes};
 
+use crate::halves::{bytes_of_halves, halves_of};
+
 /// A word of 16 bytes: two numbers of 64 bits, the most significant first.
+// A struct of its own beside `Identifier`, by a rule of the project: neither may stand for the other.
 #[derive(Clone, Copy, PartialEq, Eq)]
 pub struct Word {
     high: u64,
@@ -20,19 +23,14 @@ impl Word {
     pub fn from_bytes(bytes: &[u8; 16]) -> Word
         ensures { result ≡ word_of bytes.now }
     {
-        let [a, b, c, d, e, f, g, h, i, j, k, l, m, n, o, p] = *bytes;
-        Word {
-            high: u64::from_be_bytes([a, b, c, d, e, f, g, h]),
-            low: u64::from_be_bytes([i, j, k, l, m, n, o, p]),
-        }
+        let (high, low) = halves_of(bytes);
+        Word { high, low }
     }
 
     /// The sixteen bytes of the word.
     pub fn to_bytes(self) -> [u8; 16]
         ensures { result ≡ word_bytes self }
     {
-        let [a, b, c, d, e, f, g, h] = self.high.to_be_bytes();
-        let [i, j, k, l, m, n, o, p] = self.low.to_be_bytes();
-        [a, b, c, d, e, f, g, h, i, j, k, l, m, n, o, p]
+        bytes_of_halves(self.high, self.low)
     }
 }
