@@ -1,6 +1,7 @@
 // An entry as states that move: each group given leads to the next state, and only the fourth group yields a value.
 ghost use Rattle.std.specs.Prelude.{◌≡◌};
-ghost use Rattle.entry.specs.Entered.{first_given, second_given, third_given, halves_given, word_given, identifier_given, entered_three, entered_word, entered_identifier};
+ghost use Rattle.entry.specs.Entered.{given, first_given, second_given, third_given, halves_given, word_given, identifier_given, entered_three, entered_word, entered_identifier};
+ghost use Rattle.entry.specs.Groups.{group_of};
 
 use crate::digits::{group_number, half};
 use crate::faults::EntryFault;
@@ -37,14 +38,22 @@ pub struct ThreeGroups {
     third: u32,
 }
 
+// The number of the next group beside the state, or the state handed back with the fault.
+fn taken<State>(entry: State, group: u8, text: &str) -> Result<(State, u32), Refused<State>>
+    ensures { result ≡ given entry (λ n. (entry, n)) (group_of group text.now) }
+{
+    match group_number(group, text.as_bytes()) {
+        Ok(number) => Ok((entry, number)),
+        Err(fault) => Err(Refused { entry, fault }),
+    }
+}
+
 impl NoGroups {
     pub fn group(self, text: &str) -> Result<OneGroup, Refused<NoGroups>>
         ensures { result ≡ first_given self text.now }
     {
-        match group_number(0, text.as_bytes()) {
-            Ok(first) => Ok(OneGroup { first }),
-            Err(fault) => Err(Refused { entry: self, fault }),
-        }
+        let (_, first) = taken(self, 0, text)?;
+        Ok(OneGroup { first })
     }
 }
 
@@ -52,13 +61,8 @@ impl OneGroup {
     pub fn group(self, text: &str) -> Result<TwoGroups, Refused<OneGroup>>
         ensures { result ≡ second_given self text.now }
     {
-        match group_number(1, text.as_bytes()) {
-            Ok(second) => Ok(TwoGroups {
-                first: self.first,
-                second,
-            }),
-            Err(fault) => Err(Refused { entry: self, fault }),
-        }
+        let (OneGroup { first }, second) = taken(self, 1, text)?;
+        Ok(TwoGroups { first, second })
     }
 }
 
@@ -66,14 +70,12 @@ impl TwoGroups {
     pub fn group(self, text: &str) -> Result<ThreeGroups, Refused<TwoGroups>>
         ensures { result ≡ third_given self text.now }
     {
-        match group_number(2, text.as_bytes()) {
-            Ok(third) => Ok(ThreeGroups {
-                first: self.first,
-                second: self.second,
-                third,
-            }),
-            Err(fault) => Err(Refused { entry: self, fault }),
-        }
+        let (TwoGroups { first, second }, third) = taken(self, 2, text)?;
+        Ok(ThreeGroups {
+            first,
+            second,
+            third,
+        })
     }
 }
 
@@ -82,12 +84,9 @@ impl ThreeGroups {
     fn halves(self, text: &str) -> Result<(u64, u64), Refused<ThreeGroups>>
         ensures { result ≡ halves_given self text.now }
     {
-        let fourth = match group_number(3, text.as_bytes()) {
-            Ok(fourth) => fourth,
-            Err(fault) => return Err(Refused { entry: self, fault }),
-        };
-        let high = half(self.first, self.second);
-        let low = half(self.third, fourth);
+        let (entry, fourth) = taken(self, 3, text)?;
+        let high = half(entry.first, entry.second);
+        let low = half(entry.third, fourth);
         Ok((high, low))
     }
 
