@@ -2,10 +2,11 @@
 use Rattle.std.proofs.Common.{◌≡◌, ℕ, zero, suc, ◌+◌, ◌-◌, ◌*◌, ◌/◌, ◌%◌, ◌<◌, ◌≤◌, Bool, cond, List, [], ◌∷◌, ◌++◌, map, length, get_or, take, drop, Ok, Err, Option, Result, sym, refl, ap, ◌∙◌, zero-add, arith}
 use borrow.Rule.Slice.PartMut.{put_mid}
 use Rattle.std.specs.List.{range_with_len, flat_map}
+use Rattle.std.specs.Simd.{first_chunks}
 use Rattle.std.proofs.lemmas.List.FromFn.{length-map-range_with_len, get_or-map-range_with_len, map-range_with_len_more, sum_by-map-range_with_len_more}
 use Rattle.std.proofs.lemmas.List.{at_drop_more, at_drop_all, flat_map_more, take_all, drop-drop, length-drop, length-take-le, take_at, drop_at}
 use Rattle.std.proofs.lemmas.Slice.{take-put_mid, drop-put_mid}
-use Rattle.batch.specs.Packets.{packets, packet_at, replaced, or_else, first_fault, changes, changed_count, passed_count}
+use Rattle.batch.specs.Packets.{packets, packet_at, or_else, first_fault, changes, changed_count, passed_count}
 
 pub packets_length : (xs : List ℕ) → length (packets xs) ≡ length xs / 188
 packets_length xs = length-map-range_with_len (packet_at xs) 0 (length xs / 188)
@@ -13,41 +14,40 @@ packets_length xs = length-map-range_with_len (packet_at xs) 0 (length xs / 188)
 pub packets_get_or : (xs : List ℕ) (i : ℕ) → i < length xs / 188 → get_or (packets xs) i [] ≡ packet_at xs i
 packets_get_or xs i h = get_or-map-range_with_len (packet_at xs) 0 (length xs / 188) i i [] h (zero-add i)
 
--- a part as the code cuts it
-pub part_is : (xs : List ℕ) (i : ℕ) → take (188 * i + 188 - 188 * i) (drop (188 * i) xs) ≡ packet_at xs i
-part_is xs i =
-    let e : 188 * i + 188 - 188 * i ≡ 188 = omega arith in ap (λ (k : ℕ). take k (drop (188 * i) xs)) e
+-- the packets as the code cuts them
+chunks_from : (n i : ℕ) (xs : List ℕ) → first_chunks 188 n (drop (188 * i) xs) ≡ map (packet_at xs) (range_with_len i n)
+chunks_from zero i xs = refl
+chunks_from (suc n) i xs =
+    let next : 188 * i + 188 ≡ 188 * (i + 1) = omega arith in
+    ap (λ (ps : List (List ℕ)). packet_at xs i ∷ ps)
+    (ap (first_chunks 188 n) (drop-drop 188 (188 * i) xs ∙ ap (λ (k : ℕ). drop k xs) next) ∙ chunks_from n (i + 1) xs)
+
+pub packets_are : (xs : List ℕ) → first_chunks 188 (length xs / 188) xs ≡ packets xs
+packets_are xs = chunks_from (length xs / 188) 0 xs
 
 pub packet_length : (xs : List ℕ) (i : ℕ) → i < length xs / 188 → length (packet_at xs i) ≡ 188
 packet_length xs i h = length-take-le 188 (drop (188 * i) xs) (simp length-drop (omega arith))
 
-pub part_of : (e b : List ℕ) (i : ℕ) → drop (188 * i) b ≡ drop (188 * i) e
-    → take (188 * i + 188 - 188 * i) (drop (188 * i) b) ≡ packet_at e i
-part_of e b i same = part_is b i ∙ ap (take 188) same
+-- a packet as the second pass cuts it
+pub part_of : (e b : List ℕ) (i : ℕ) → drop (188 * i) b ≡ drop (188 * i) e → take (188 * i + 188 - 188 * i) (drop (188 * i) b) ≡ packet_at e i
+part_of e b i same =
+    let n : 188 * i + 188 - 188 * i ≡ 188 = omega arith in ap (λ (k : ℕ). take k (drop (188 * i) b)) n ∙ ap (take 188) same
 
-module _ {X F G : Type 0} (plan : List ℕ → Result (Option X) F) (up : ℕ → F → G) where
-  -- one packet of the first pass
-  pub fault_more : (xs : List ℕ) (i : ℕ) → i < length xs / 188
-      → first_fault plan up i (drop i (packets xs)) ≡ or_else (plan (packet_at xs i)) (up i) (first_fault plan up (i + 1) (drop (i + 1) (packets xs)))
-  fault_more xs i h =
-      at_drop_more (first_fault plan up i) (packets xs) i [] (rw packets_length h)
-      ∙ ap (λ (p : List ℕ). or_else (plan p) (up i) (first_fault plan up (i + 1) (drop (i + 1) (packets xs)))) (packets_get_or xs i h)
+module _ {X F G : Type 0} (plan : List ℕ → Result (Option X) F) (up : ℕ → F → G) (ps : List (List ℕ)) (i : ℕ) where
+  -- the first pass at a packet that passes, at one that does not, and after the last
+  pub fault_pass : (x : Option X) → i < length ps → Ok x ≡ plan (get_or ps i [])
+      → first_fault plan up i (drop i ps) ≡ first_fault plan up (i + 1) (drop (i + 1) ps)
+  fault_pass x h e =
+      at_drop_more (first_fault plan up i) ps i [] h
+      ∙ ap (λ (r : Result (Option X) F). or_else r (up i) (first_fault plan up (i + 1) (drop (i + 1) ps))) (sym e)
 
-  pub fault_all : (xs : List ℕ) (i : ℕ) → length xs / 188 ≤ i → first_fault plan up i (drop i (packets xs)) ≡ Ok tt
-  fault_all xs i h = at_drop_all (first_fault plan up i) (packets xs) i (rw packets_length h)
+  pub fault_stop : (f : F) → i < length ps → Err f ≡ plan (get_or ps i []) → first_fault plan up i (drop i ps) ≡ Err (up i f)
+  fault_stop f h e =
+      at_drop_more (first_fault plan up i) ps i [] h
+      ∙ ap (λ (r : Result (Option X) F). or_else r (up i) (first_fault plan up (i + 1) (drop (i + 1) ps))) (sym e)
 
-  -- one packet that passes, and one that does not
-  pub fault_pass : (xs : List ℕ) (i : ℕ) (x : Option X) → i < length xs / 188 → Ok x ≡ plan (packet_at xs i)
-      → first_fault plan up i (drop i (packets xs)) ≡ first_fault plan up (i + 1) (drop (i + 1) (packets xs))
-  fault_pass xs i x h e =
-      fault_more xs i h
-      ∙ ap (λ (r : Result (Option X) F). or_else r (up i) (first_fault plan up (i + 1) (drop (i + 1) (packets xs)))) (sym e)
-
-  pub fault_stop : (xs : List ℕ) (i : ℕ) (f : F) → i < length xs / 188 → Err f ≡ plan (packet_at xs i)
-      → first_fault plan up i (drop i (packets xs)) ≡ Err (up i f)
-  fault_stop xs i f h e =
-      fault_more xs i h
-      ∙ ap (λ (r : Result (Option X) F). or_else r (up i) (first_fault plan up (i + 1) (drop (i + 1) (packets xs)))) (sym e)
+  pub fault_all : length ps ≤ i → first_fault plan up i (drop i ps) ≡ Ok tt
+  fault_all h = at_drop_all (first_fault plan up i) ps i h
 
 -- one packet of the second pass
 pub joined_step : (f : List ℕ → List ℕ) (g : ℕ → List ℕ) (i : ℕ)
@@ -55,32 +55,21 @@ pub joined_step : (f : List ℕ → List ℕ) (g : ℕ → List ℕ) (i : ℕ)
 joined_step f g i =
     ap (flat_map f) (map-range_with_len_more g 0 i i (zero-add i)) ∙ sym (flat_map_more f [] (map g (range_with_len 0 i)) (g i))
 
--- the part at a packet's place, written over
-pub put_is : (b q : List ℕ) (i at : ℕ) → at ≡ 188 * i → put_mid at (at + 188 - at) b q ≡ replaced b i q
-put_is b q i at e =
-    let k : at + 188 - at ≡ 188 = omega arith in
-    ap (λ (n : ℕ). take at b ++ (q ++ drop n (drop at b))) k ∙ ap (λ (n : ℕ). take n b ++ (q ++ drop 188 (drop n b))) e
-
-pub change_step : (f : List ℕ → List ℕ) (e b : List ℕ) (i : ℕ) → i < length e / 188 → length b ≡ length e
+-- and written over
+pub change_step : (f : List ℕ → List ℕ) (e b q : List ℕ) (i : ℕ) → i < length e / 188 → length b ≡ length e
     → take (188 * i) b ≡ flat_map f (map (packet_at e) (range_with_len 0 i))
     → drop (188 * i) b ≡ drop (188 * i) e
-    → length (f (packet_at e i)) ≡ 188
-    → (take (188 * (i + 1)) (replaced b i (f (packet_at b i))) ≡ flat_map f (map (packet_at e) (range_with_len 0 (i + 1))))
-    × (drop (188 * (i + 1)) (replaced b i (f (packet_at b i))) ≡ drop (188 * (i + 1)) e)
-change_step f e b i lt long front back size =
-    let q : List ℕ = f (packet_at b i) in
-    let part : packet_at b i ≡ packet_at e i = ap (take 188) back in
-    let put : put_mid (188 * i) (188 * i + 188 - 188 * i) b q ≡ replaced b i q = put_is b q i (188 * i) refl in
-    let qs : length q ≡ 188 = ap (λ (p : List ℕ). length (f p)) part ∙ size in (
-      ap (take (188 * (i + 1))) (sym put)
-          ∙ take-put_mid (188 * i) (188 * i + 188 - 188 * i) b q (188 * (i + 1)) (omega arith) (omega arith)
-          ∙ ap (λ (z : List ℕ). z ++ q) front
-          ∙ ap (λ (z : List ℕ). flat_map f (map (packet_at e) (range_with_len 0 i)) ++ f z) part
-          ∙ sym (joined_step f (packet_at e) i),
-      ap (drop (188 * (i + 1))) (sym put)
-          ∙ drop-put_mid (188 * i) (188 * i + 188 - 188 * i) b q (188 * (i + 1)) (omega arith) (omega arith) (omega arith)
-          ∙ at_next b ∙ ap (drop 188) back ∙ sym (at_next e),
-    )
+    → q ≡ f (packet_at e i) → length q ≡ 188
+    → (take (188 * (i + 1)) (put_mid (188 * i) (188 * i + 188 - 188 * i) b q) ≡ flat_map f (map (packet_at e) (range_with_len 0 (i + 1))))
+    × (drop (188 * (i + 1)) (put_mid (188 * i) (188 * i + 188 - 188 * i) b q) ≡ drop (188 * (i + 1)) e)
+change_step f e b q i lt long front back is size = (
+  take-put_mid (188 * i) (188 * i + 188 - 188 * i) b q (188 * (i + 1)) (omega arith) (omega arith)
+      ∙ ap (λ (z : List ℕ). z ++ q) front
+      ∙ ap (λ (z : List ℕ). flat_map f (map (packet_at e) (range_with_len 0 i)) ++ z) is
+      ∙ sym (joined_step f (packet_at e) i),
+  drop-put_mid (188 * i) (188 * i + 188 - 188 * i) b q (188 * (i + 1)) (omega arith) (omega arith) (omega arith)
+      ∙ at_next b ∙ ap (drop 188) back ∙ sym (at_next e),
+)
   where
     at_next : (xs : List ℕ) → drop (188 * (i + 1)) xs ≡ drop 188 (drop (188 * i) xs)
     at_next xs =

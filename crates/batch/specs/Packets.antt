@@ -6,10 +6,6 @@ use Rattle.std.specs.List.{range_with_len, flat_map}
 abbrev pub packet_at : List ℕ → ℕ → List ℕ
 packet_at batch i = take 188 (drop (188 * i) batch)
 
--- a batch with another packet at place i
-abbrev pub replaced : List ℕ → ℕ → List ℕ → List ℕ
-replaced batch i packet = take (188 * i) batch ++ (packet ++ drop 188 (drop (188 * i) batch))
-
 -- the packets of a batch
 abbrev pub packets : List ℕ → List (List ℕ)
 packets batch = map (packet_at batch) (range_with_len 0 (length batch / 188))

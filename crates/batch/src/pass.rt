@@ -3,7 +3,7 @@ ghost use Rattle.std.specs.Prelude.{◌≡◌, ℕ, ◌+◌, ◌*◌, ◌/◌, �
 ghost use Rattle.cipher.specs.Profiles.{meaning};
 ghost use Rattle.packet.specs.Header.{header_of};
 ghost use Rattle.batch.specs.Batches.{control_after, payload_after, changed, batch_after, objection_at, batch_answer, Batched};
-ghost use Rattle.batch.specs.Packets.{packet_at, packets, replaced, first_fault, changes, followed, changed_count, passed_count};
+ghost use Rattle.batch.specs.Packets.{packets, first_fault, changes, followed, changed_count, passed_count};
 ghost use Rattle.batch.specs.Plan.{keys_of, plan_of};
 ghost use Rattle.batch.specs.Prepared.{Prepared};
 ghost use Rattle.word.specs.declared.word.Word.{Word};
@@ -32,33 +32,130 @@ pub fn process<C: Cipher, T: TailRule, K: Keyring>(
     ensures { Batched direction (meaning C.Cipher T.TailRule profile.now) (keys_of K.Keyring keys.now) area.old batch.old result area.new batch.new }
 {
     all_bytes(batch);
-    run(direction, profile, keys, area, batch)
+    Pass {
+        direction,
+        profile,
+        keys,
+    }
+    .run(area, batch)
 }
 
-// The tests of area and batch, then both passes. The guard wipes the area on every way out but the first.
-fn run<C: Cipher, T: TailRule, K: Keyring>(
+// Which way packets go, under which profile, and under whose words.
+#[derive_where(Clone, Copy)]
+struct Pass<'a, C, T, K> {
     direction: Direction,
-    profile: &Profile<C, T>,
-    keys: &K,
-    area: &mut [u8],
-    batch: &mut [u8],
-) -> Result<(usize, usize), BatchFault>
-    ensures answer { result ≡ batch_answer direction (meaning C.Cipher T.TailRule profile.now) (keys_of K.Keyring keys.now) (length area.old) batch.old }
-    ensures after { batch.new ≡ (if is_ok result then batch_after direction (meaning C.Cipher T.TailRule profile.now) (keys_of K.Keyring keys.now) batch.old else batch.old) }
-    ensures wiped { area.new ≡ (if nat_eq (length area.old) C.Cipher.SCHEDULE then replicate (length area.old) 0 else area.old) }
+    profile: &'a Profile<C, T>,
+    keys: &'a K,
+}
+
+impl<C: Cipher, T: TailRule, K: Keyring> Pass<'_, C, T, K> {
+    // The tests of area and batch, then both passes. The guard wipes the area on every way out but the first.
+    fn run(&self, area: &mut [u8], batch: &mut [u8]) -> Result<(usize, usize), BatchFault>
+        ensures answer { result ≡ batch_answer self.now.direction (meaning C.Cipher T.TailRule self.now.profile.now) (keys_of K.Keyring self.now.keys.now) (length area.old) batch.old }
+        ensures after { batch.new ≡ (if is_ok result then batch_after self.now.direction (meaning C.Cipher T.TailRule self.now.profile.now) (keys_of K.Keyring self.now.keys.now) batch.old else batch.old) }
+        ensures wiped { area.new ≡ (if nat_eq (length area.old) C.Cipher.SCHEDULE then replicate (length area.old) 0 else area.old) }
+    {
+        if area.len() != C::SCHEDULE {
+            return Err(BatchFault::KeyArea { length: area.len() });
+        }
+        let guard = KeyArea { bytes: area };
+        if batch.len() % PACKET_LEN != 0 || batch.len() > MAX_BATCH_LEN {
+            return Err(BatchFault::BatchLength {
+                length: batch.len(),
+            });
+        }
+        self.test_all(batch)?;
+        let counts = self.change_all(guard.bytes, batch);
+        Ok(counts)
+    }
+
+    // The fault of the first packet that is refused.
+    fn test_all(&self, batch: &[u8]) -> Result<(), BatchFault>
+        ensures { result ≡ first_fault (plan_of self.now.direction (keys_of K.Keyring self.now.keys.now)) objection_at 0 (packets batch.now) }
+    {
+        let (packets, _) = batch.as_chunks::<PACKET_LEN>();
+        for (i, packet) in packets.iter().enumerate() {
+            if let Err(objection) = plan(self.direction, self.keys, header_of(packet)) {
+                return Err(objection_at(i, objection));
+            }
+        }
+        Ok(())
+    }
+
+    // Does to every packet what its plan says, and counts those changed and those passed.
+    fn change_all(&self, area: &mut [u8], batch: &mut [u8]) -> (usize, usize)
+        requires long { length area.old ≡ C.Cipher.SCHEDULE }
+        requires whole { length batch.old % 188 ≡ 0 }
+        ensures after { batch.new ≡ batch_after self.now.direction (meaning C.Cipher T.TailRule self.now.profile.now) (keys_of K.Keyring self.now.keys.now) batch.old }
+        ensures value { result ≡ (changed_count (plan_of self.now.direction (keys_of K.Keyring self.now.keys.now)) (packets batch.old), passed_count (plan_of self.now.direction (keys_of K.Keyring self.now.keys.now)) (packets batch.old)) }
+    {
+        let mut prepared = None;
+        let mut changed = 0;
+        let mut passed = 0;
+        // By place: std says nothing of what a slice holds after `chunks_exact_mut` or `as_chunks_mut`.
+        for i in 0..batch.len() / PACKET_LEN {
+            let at = PACKET_LEN * i;
+            if self.follow(&mut prepared, area, &mut batch[at..at + PACKET_LEN]) {
+                changed += 1;
+            } else {
+                passed += 1;
+            }
+        }
+        (changed, passed)
+    }
+
+    // Does to a packet what its plan says, and answers whether that changed it.
+    fn follow(&self, prepared: &mut Option<Word>, area: &mut [u8], packet: &mut [u8]) -> bool
+        requires long { length area.old ≡ C.Cipher.SCHEDULE }
+        requires prepared { Prepared (C.Cipher.schedule self.now.profile.now.cipher) prepared.old area.old }
+        requires size { length packet.old ≡ 188 }
+        ensures after { packet.new ≡ followed (plan_of self.now.direction (keys_of K.Keyring self.now.keys.now)) (changed self.now.direction (meaning C.Cipher T.TailRule self.now.profile.now)) packet.old }
+        ensures value { result ≡ changes (plan_of self.now.direction (keys_of K.Keyring self.now.keys.now) packet.old) }
+        ensures prepared { Prepared (C.Cipher.schedule self.now.profile.now.cipher) prepared.new area.new }
+    {
+        let Ok(Some(how)) = plan(self.direction, self.keys, header_of(packet)) else {
+            return false;
+        };
+        prepare(&self.profile.cipher, how.word, prepared, area);
+        self.change(how, area, packet);
+        true
+    }
+
+    // Changes a packet under the word whose schedule the area holds.
+    fn change(&self, how: Change, area: &[u8], packet: &mut [u8])
+        requires size { length packet.old ≡ 188 }
+        requires low { 4 ≤ how.start }
+        requires high { how.start ≤ 188 }
+        requires prepared { area.now ≡ C.Cipher.schedule self.now.profile.now.cipher how.word }
+        ensures { packet.new ≡ changed self.now.direction (meaning C.Cipher T.TailRule self.now.profile.now) how packet.old }
+    {
+        set_control(packet, control_after(self.direction, how.parity));
+        self.change_payload(area, &mut packet[how.start..]);
+    }
+
+    // Scrambles or descrambles a payload. The area is a schedule, so its length is not refused.
+    fn change_payload(&self, area: &[u8], payload: &mut [u8])
+        ensures { (w : Word) → area.now ≡ C.Cipher.schedule self.now.profile.now.cipher w → payload.new ≡ payload_after self.now.direction (meaning C.Cipher T.TailRule self.now.profile.now) w payload.old }
+    {
+        let _ = match self.direction {
+            Direction::Scramble => self.profile.scramble_payload(area, payload),
+            Direction::Descramble => self.profile.descramble_payload(area, payload),
+        };
+    }
+}
+
+// Has the schedule of the word in the area: nothing is done where it is there already.
+fn prepare<C: Cipher>(cipher: &C, word: Word, prepared: &mut Option<Word>, area: &mut [u8])
+    requires long { length area.old ≡ C.Cipher.SCHEDULE }
+    requires prepared { Prepared (C.Cipher.schedule cipher.now) prepared.old area.old }
+    ensures is { area.new ≡ C.Cipher.schedule cipher.now word }
+    ensures prepared { Prepared (C.Cipher.schedule cipher.now) prepared.new area.new }
 {
-    if area.len() != C::SCHEDULE {
-        return Err(BatchFault::KeyArea { length: area.len() });
+    if *prepared == Some(word) {
+        return;
     }
-    let guard = KeyArea { bytes: area };
-    if batch.len() % PACKET_LEN != 0 || batch.len() > MAX_BATCH_LEN {
-        return Err(BatchFault::BatchLength {
-            length: batch.len(),
-        });
-    }
-    test_all(direction, keys, batch)?;
-    let counts = change_all(direction, profile, keys, guard.bytes, batch);
-    Ok(counts)
+    cipher.prepare(word, area);
+    *prepared = Some(word);
 }
 
 // The header of a packet.
@@ -79,39 +176,6 @@ fn objection_at(packet: usize, objection: Objection) -> BatchFault
     }
 }
 
-// The fault of the first packet that is refused.
-fn test_all<K: Keyring>(direction: Direction, keys: &K, batch: &[u8]) -> Result<(), BatchFault>
-    ensures { result ≡ first_fault (plan_of direction (keys_of K.Keyring keys.now)) objection_at 0 (packets batch.now) }
-{
-    let n = packet_count(batch);
-    for i in 0..n {
-        let header = header_of(&batch[PACKET_LEN * i..PACKET_LEN * i + PACKET_LEN]);
-        match plan(direction, keys, header) {
-            Ok(_) => {}
-            Err(objection) => {
-                return Err(objection_at(i, objection));
-            }
-        }
-    }
-    Ok(())
-}
-
-// Has the schedule of the word in the area: nothing is done where it is there already.
-fn prepare<C: Cipher>(cipher: &C, word: Word, prepared: &mut Option<Word>, area: &mut [u8])
-    requires long { length area.old ≡ C.Cipher.SCHEDULE }
-    requires prepared { Prepared (C.Cipher.schedule cipher.now) prepared.old area.old }
-    ensures is { area.new ≡ C.Cipher.schedule cipher.now word }
-    ensures prepared { Prepared (C.Cipher.schedule cipher.now) prepared.new area.new }
-{
-    if let Some(last) = *prepared {
-        if last == word {
-            return;
-        }
-    }
-    cipher.prepare(word, area);
-    *prepared = Some(word);
-}
-
 // The control bits of a packet after it was changed.
 fn control_after(direction: Direction, parity: Parity) -> ScramblingControl
     ensures { result ≡ control_after direction parity }
@@ -121,128 +185,4 @@ fn control_after(direction: Direction, parity: Parity) -> ScramblingControl
         (Direction::Scramble, Parity::Odd) => ScramblingControl::Odd,
         (Direction::Descramble, _) => ScramblingControl::Clear,
     }
-}
-
-// Scrambles or descrambles a payload. The area is a schedule, so its length is not refused.
-fn change_payload<C: Cipher, T: TailRule>(
-    direction: Direction,
-    profile: &Profile<C, T>,
-    area: &[u8],
-    payload: &mut [u8],
-)
-    ensures { (w : Word) → area.now ≡ C.Cipher.schedule profile.now.cipher w → payload.new ≡ payload_after direction (meaning C.Cipher T.TailRule profile.now) w payload.old }
-{
-    let _ = match direction {
-        Direction::Scramble => profile.scramble_payload(area, payload),
-        Direction::Descramble => profile.descramble_payload(area, payload),
-    };
-}
-
-// Changes a packet under the word whose schedule the area holds.
-fn change<C: Cipher, T: TailRule>(
-    direction: Direction,
-    profile: &Profile<C, T>,
-    how: Change,
-    area: &[u8],
-    packet: &mut [u8],
-)
-    requires size { length packet.old ≡ 188 }
-    requires low { 4 ≤ how.start }
-    requires high { how.start ≤ 188 }
-    requires prepared { area.now ≡ C.Cipher.schedule profile.now.cipher how.word }
-    ensures { packet.new ≡ changed direction (meaning C.Cipher T.TailRule profile.now) how packet.old }
-{
-    let start = how.start;
-    set_control(packet, control_after(direction, how.parity));
-    change_payload(direction, profile, area, &mut packet[start..188]);
-}
-
-// Does to a packet what its plan says, and answers whether that changed it.
-fn follow<C: Cipher, T: TailRule, K: Keyring>(
-    direction: Direction,
-    profile: &Profile<C, T>,
-    keys: &K,
-    prepared: &mut Option<Word>,
-    area: &mut [u8],
-    packet: &mut [u8],
-) -> bool
-    requires long { length area.old ≡ C.Cipher.SCHEDULE }
-    requires prepared { Prepared (C.Cipher.schedule profile.now.cipher) prepared.old area.old }
-    requires size { length packet.old ≡ 188 }
-    ensures after { packet.new ≡ followed (plan_of direction (keys_of K.Keyring keys.now)) (changed direction (meaning C.Cipher T.TailRule profile.now)) packet.old }
-    ensures value { result ≡ changes (plan_of direction (keys_of K.Keyring keys.now) packet.old) }
-    ensures prepared { Prepared (C.Cipher.schedule profile.now.cipher) prepared.new area.new }
-{
-    match plan(direction, keys, header_of(packet)) {
-        Ok(Some(how)) => {
-            prepare(&profile.cipher, how.word, prepared, area);
-            change(direction, profile, how, area, packet);
-            true
-        }
-        Ok(None) => false,
-        Err(_) => false,
-    }
-}
-
-// Does to the packet at place `i` of the batch what its plan says.
-fn follow_at<C: Cipher, T: TailRule, K: Keyring>(
-    direction: Direction,
-    profile: &Profile<C, T>,
-    keys: &K,
-    prepared: &mut Option<Word>,
-    area: &mut [u8],
-    batch: &mut [u8],
-    i: usize,
-) -> bool
-    requires long { length area.old ≡ C.Cipher.SCHEDULE }
-    requires prepared { Prepared (C.Cipher.schedule profile.now.cipher) prepared.old area.old }
-    requires inside { i < length batch.old / 188 }
-    ensures after { batch.new ≡ replaced batch.old i (followed (plan_of direction (keys_of K.Keyring keys.now)) (changed direction (meaning C.Cipher T.TailRule profile.now)) (packet_at batch.old i)) }
-    ensures size { length (followed (plan_of direction (keys_of K.Keyring keys.now)) (changed direction (meaning C.Cipher T.TailRule profile.now)) (packet_at batch.old i)) ≡ 188 }
-    ensures value { result ≡ changes (plan_of direction (keys_of K.Keyring keys.now) (packet_at batch.old i)) }
-    ensures prepared { Prepared (C.Cipher.schedule profile.now.cipher) prepared.new area.new }
-{
-    let at = PACKET_LEN * i;
-    follow(
-        direction,
-        profile,
-        keys,
-        prepared,
-        area,
-        &mut batch[at..at + PACKET_LEN],
-    )
-}
-
-// How many packets a batch has.
-fn packet_count(batch: &[u8]) -> usize
-    ensures { result ≡ length batch.now / 188 }
-{
-    batch.len() / PACKET_LEN
-}
-
-// Does to every packet what its plan says, and counts those changed and those passed.
-fn change_all<C: Cipher, T: TailRule, K: Keyring>(
-    direction: Direction,
-    profile: &Profile<C, T>,
-    keys: &K,
-    area: &mut [u8],
-    batch: &mut [u8],
-) -> (usize, usize)
-    requires long { length area.old ≡ C.Cipher.SCHEDULE }
-    requires whole { length batch.old % 188 ≡ 0 }
-    ensures after { batch.new ≡ batch_after direction (meaning C.Cipher T.TailRule profile.now) (keys_of K.Keyring keys.now) batch.old }
-    ensures value { result ≡ (changed_count (plan_of direction (keys_of K.Keyring keys.now)) (packets batch.old), passed_count (plan_of direction (keys_of K.Keyring keys.now)) (packets batch.old)) }
-{
-    let n = packet_count(batch);
-    let mut prepared = None;
-    let mut changed = 0;
-    let mut passed = 0;
-    for i in 0..n {
-        if follow_at(direction, profile, keys, &mut prepared, area, batch, i) {
-            changed += 1;
-        } else {
-            passed += 1;
-        }
-    }
-    (changed, passed)
 }

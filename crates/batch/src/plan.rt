@@ -37,59 +37,56 @@ impl From<HeaderFault> for Objection {
     }
 }
 
-// The change under the word that is held for a service and parity.
-fn with_word<K: Keyring>(
-    keys: &K,
+// The payload of a joined packet: where it starts, its service, and who holds the words.
+#[derive_where(Clone, Copy)]
+struct Payload<'a, K> {
+    keys: &'a K,
     service: Service,
-    parity: Parity,
     start: usize,
-) -> Result<Option<Change>, Objection>
-    ensures { result ≡ with_word parity start (K.Keyring.held keys.now service.number parity) }
-{
-    match keys.word(service, parity) {
-        Some(word) => Ok(Some(Change {
+}
+
+impl<K: Keyring> Payload<'_, K> {
+    // The change under the word that is held for a parity.
+    fn under(&self, parity: Parity) -> Result<Option<Change>, Objection>
+        ensures { result ≡ with_word parity self.now.start (K.Keyring.held self.now.keys.now self.now.service.number parity) }
+    {
+        let word = self
+            .keys
+            .word(self.service, parity)
+            .ok_or(Objection::NoWord)?;
+        Ok(Some(Change {
             word,
             parity,
-            start,
-        })),
-        None => Err(Objection::NoWord),
+            start: self.start,
+        }))
     }
-}
 
-// A joined packet with a payload, to be scrambled.
-fn plan_scramble<K: Keyring>(
-    keys: &K,
-    service: Service,
-    control: ScramblingControl,
-    start: usize,
-) -> Result<Option<Change>, Objection>
-    ensures { result ≡ scramble_plan (keys_of K.Keyring keys.now) service.number control start }
-{
-    match control {
-        ScramblingControl::Clear => match keys.picked_parity(service) {
-            Some(parity) => with_word(keys, service, parity, start),
-            None => Err(Objection::NoWord),
-        },
-        ScramblingControl::Reserved | ScramblingControl::Even | ScramblingControl::Odd => {
-            Err(Objection::BadHeader(HeaderFault::Scrambled))
+    fn plan_scramble(&self, control: ScramblingControl) -> Result<Option<Change>, Objection>
+        ensures { result ≡ scramble_plan (keys_of K.Keyring self.now.keys.now) self.now.service.number control self.now.start }
+    {
+        match control {
+            ScramblingControl::Clear => {
+                let parity = self
+                    .keys
+                    .picked_parity(self.service)
+                    .ok_or(Objection::NoWord)?;
+                self.under(parity)
+            }
+            ScramblingControl::Reserved | ScramblingControl::Even | ScramblingControl::Odd => {
+                Err(Objection::BadHeader(HeaderFault::Scrambled))
+            }
         }
     }
-}
 
-// A joined packet with a payload, to be descrambled.
-fn plan_descramble<K: Keyring>(
-    keys: &K,
-    service: Service,
-    control: ScramblingControl,
-    start: usize,
-) -> Result<Option<Change>, Objection>
-    ensures { result ≡ descramble_plan (keys_of K.Keyring keys.now) service.number control start }
-{
-    match control {
-        ScramblingControl::Clear => Ok(None),
-        ScramblingControl::Reserved => Err(Objection::BadHeader(HeaderFault::ReservedControl)),
-        ScramblingControl::Even => with_word(keys, service, Parity::Even, start),
-        ScramblingControl::Odd => with_word(keys, service, Parity::Odd, start),
+    fn plan_descramble(&self, control: ScramblingControl) -> Result<Option<Change>, Objection>
+        ensures { result ≡ descramble_plan (keys_of K.Keyring self.now.keys.now) self.now.service.number control self.now.start }
+    {
+        match control {
+            ScramblingControl::Clear => Ok(None),
+            ScramblingControl::Reserved => Err(Objection::BadHeader(HeaderFault::ReservedControl)),
+            ScramblingControl::Even => self.under(Parity::Even),
+            ScramblingControl::Odd => self.under(Parity::Odd),
+        }
     }
 }
 
@@ -113,8 +110,13 @@ pub(crate) fn plan<K: Keyring>(
     let Some(start) = header.payload_start()? else {
         return Ok(None);
     };
+    let payload = Payload {
+        keys,
+        service,
+        start,
+    };
     match direction {
-        Direction::Scramble => plan_scramble(keys, service, header.control, start),
-        Direction::Descramble => plan_descramble(keys, service, header.control, start),
+        Direction::Scramble => payload.plan_scramble(header.control),
+        Direction::Descramble => payload.plan_descramble(header.control),
     }
 }

@@ -19,7 +19,7 @@ pub enum ScramblingControl {
 }
 
 impl ScramblingControl {
-    /// The control of two bits.
+    // The control of two bits. No `From`: of a byte past 3 this says nothing.
     fn from_bits(bits: u8) -> ScramblingControl
         ensures { result ≡ control_of bits }
     {
@@ -54,7 +54,7 @@ pub enum AdaptationControl {
 }
 
 impl AdaptationControl {
-    /// The control of two bits.
+    // The control of two bits. No `From`: of a byte past 3 this says nothing.
     fn from_bits(bits: u8) -> AdaptationControl
         ensures { result ≡ adaptation_of bits }
     {
@@ -90,7 +90,7 @@ impl Header {
         Header {
             sync,
             error: b1 >= 0x80,
-            pid: (b1 % 32) as u16 * 256 + b2 as u16,
+            pid: u16::from(b1 % 32) * 256 + u16::from(b2),
             control: ScramblingControl::from_bits(b3 / 64),
             adaptation: AdaptationControl::from_bits(b3 / 16 % 4),
             length,
@@ -115,7 +115,7 @@ impl Header {
                 if length > 182 {
                     return Err(HeaderFault::AdaptationLength { length });
                 }
-                Ok(Some(5 + length as usize))
+                Ok(Some(5 + usize::from(length)))
             }
         }
     }
@@ -125,7 +125,7 @@ impl Header {
 pub fn set_control(packet: &mut [u8], control: ScramblingControl)
     ensures { packet.new ≡ with_control control packet.old }
 {
-    if packet.len() > 3 {
-        packet[3] = control.bits() * 64 + packet[3] % 64;
+    if let [_, _, _, byte, ..] = packet {
+        *byte = control.bits() * 64 + *byte % 64;
     }
 }

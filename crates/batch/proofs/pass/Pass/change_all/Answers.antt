@@ -1,0 +1,54 @@
+use Rattle.std.proofs.Common.{◌≡◌, ℕ, ◌+◌, ◌*◌, ◌/◌, ◌<◌, Bool, true, false, cond, List, map, length, take, drop, sym, ap, ◌∙◌, arith}
+use Rattle.std.specs.List.{range_with_len}
+use Rattle.cipher.specs.Profiles.{meaning}
+use Rattle.batch.specs.Batches.{changed}
+use Rattle.batch.specs.Packets.{packet_at, packets, changes, followed, changed_count, passed_count}
+use Rattle.batch.specs.Plan.{keys_of, plan_of}
+use Rattle.batch.proofs.Passes.{part_of, packet_length, change_step, changed_more, passed_more, change_all}
+use Rattle.batch.proofs.pass.Pass.change_all.Goals as goal
+use Rattle.batch.proofs.pass.Pass.change_all.Goals.{then-follow, else-follow}
+
+pub follow-requires-clause-prepared : goal.follow-requires-clause-prepared
+follow-requires-clause-prepared g c = c.loop-i.invariant.5
+
+pub follow-requires-clause-size : goal.follow-requires-clause-size
+follow-requires-clause-size g c =
+    let inside : c.loop-i.i < length c.args.batch.now / 188 = omega arith in
+    ap length (part_of c.args.batch.now c.loop-i.batch c.loop-i.i c.loop-i.invariant.1) ∙ packet_length c.args.batch.now c.loop-i.i inside
+
+pub loop-i-preserved : goal.loop-i-preserved
+loop-i-preserved g c =
+    let m = meaning g.C.Cipher g.T.TailRule c.args.self.now.profile.now in
+    let plan = plan_of c.args.self.now.direction (keys_of g.K.Keyring c.args.self.now.keys.now) in
+    let f = followed plan (changed c.args.self.now.direction m) in
+    let e = c.args.batch.now in
+    let b = c.loop-i.batch in
+    let i = c.loop-i.i in
+    let inside : i < length e / 188 = omega arith in
+    let part = part_of e b i c.loop-i.invariant.1 in
+    let test = c.follow.ensures.value ∙ ap (λ (p : List ℕ). changes (plan p)) part in
+    let size = c.follow.auto.packet ∙ ap length part ∙ packet_length e i inside in
+    let step = change_step f e b c.follow.new.packet i inside c.loop-i.auto.batch c.loop-i.invariant.0 c.loop-i.invariant.1 (c.follow.ensures.after ∙ ap f part) size in
+    let counts : (v : Bool) → c.follow.result ≡ v → (c.loop-i.changed + cond v 1 0 ≡ changed_count plan (map (packet_at e) (range_with_len 0 (i + 1)))) × (c.loop-i.passed + cond v 0 1 ≡ passed_count plan (map (packet_at e) (range_with_len 0 (i + 1))))
+    = λ v h. (changed_more plan e i c.loop-i.changed v (sym h ∙ test) c.loop-i.invariant.2, passed_more plan e i c.loop-i.passed v (sym h ∙ test) c.loop-i.invariant.3) in
+    elim c.if-follow.branch [
+      | then-follow w ↦
+          let n = counts true w.if-follow.true in
+          (step.0, step.1, omega (arith, n.0, w.changed-is), omega (arith, n.1, w.passed-is), omega (arith, w.changed-is, w.passed-is), c.follow.ensures.prepared)
+      | else-follow w ↦
+          let n = counts false w.if-follow.false in
+          (step.0, step.1, omega (arith, n.0, w.changed-is), omega (arith, n.1, w.passed-is), omega (arith, w.changed-is, w.passed-is), c.follow.ensures.prepared)
+    ]
+
+pub returns : goal.returns
+returns g c =
+    let m = meaning g.C.Cipher g.T.TailRule c.args.self.now.profile.now in
+    let plan = plan_of c.args.self.now.direction (keys_of g.K.Keyring c.args.self.now.keys.now) in
+    let f = followed plan (changed c.args.self.now.direction m) in
+    let at : c.loop-i.i ≡ length c.args.batch.now / 188 = omega arith in
+    let first : c.loop-i.changed ≡ changed_count plan (packets c.args.batch.now) = c.loop-i.invariant.2 ∙ ap (λ (k : ℕ). changed_count plan (map (packet_at c.args.batch.now) (range_with_len 0 k))) at in
+    let second : c.loop-i.passed ≡ passed_count plan (packets c.args.batch.now) = c.loop-i.invariant.3 ∙ ap (λ (k : ℕ). passed_count plan (map (packet_at c.args.batch.now) (range_with_len 0 k))) at in
+    record {
+      after = change_all f c.args.batch.now c.loop-i.batch c.loop-i.i at c.requires.whole c.loop-i.auto.batch c.loop-i.invariant.0;
+      value = cc;
+    }
