@@ -1,12 +1,12 @@
 -- One packet more of each pass over a batch.
-use Rattle.std.proofs.Common.{◌≡◌, ℕ, zero, suc, ◌+◌, ◌-◌, ◌*◌, ◌/◌, ◌%◌, ◌<◌, ◌≤◌, Bool, cond, List, [], ◌∷◌, ◌++◌, map, length, get_or, take, drop, Ok, Err, Option, Result, sym, refl, ap, ◌∙◌, zero-add, arith}
+use Rattle.std.proofs.Common.{◌≡◌, ℕ, zero, suc, ◌+◌, ◌-◌, ◌*◌, ◌/◌, ◌%◌, ◌<◌, ◌≤◌, Bool, List, [], ◌∷◌, ◌++◌, map, length, get_or, take, drop, Ok, Err, Option, Result, sum_by, sym, refl, ap, ◌∙◌, zero-add, arith}
 use borrow.Rule.Slice.PartMut.{put_mid}
 use Rattle.std.specs.List.{range_with_len, flat_map}
 use Rattle.std.specs.Simd.{first_chunks}
 use Rattle.std.proofs.lemmas.List.FromFn.{length-map-range_with_len, get_or-map-range_with_len, map-range_with_len_more, sum_by-map-range_with_len_more}
 use Rattle.std.proofs.lemmas.List.{at_drop_more, at_drop_all, flat_map_more, take_all, drop-drop, length-drop, length-take-le, take_at, drop_at}
 use Rattle.std.proofs.lemmas.Slice.{take-put_mid, drop-put_mid}
-use Rattle.batch.specs.Packets.{packets, packet_at, or_else, first_fault, changes, changed_count, passed_count}
+use Rattle.batch.specs.Packets.{packets, packet_at, or_else, first_fault, changes}
 
 pub packets_length : (xs : List ℕ) → length (packets xs) ≡ length xs / 188
 packets_length xs = length-map-range_with_len (packet_at xs) 0 (length xs / 188)
@@ -81,21 +81,14 @@ pub change_all : (f : List ℕ → List ℕ) (e b : List ℕ) (i : ℕ) → i �
 change_all f e b i at whole long front =
     sym (take_all (188 * i) b (omega arith)) ∙ front ∙ ap (λ (k : ℕ). flat_map f (map (packet_at e) (range_with_len 0 k))) at
 
-module _ {X F : Type 0} (plan : List ℕ → Result (Option X) F) where
-  -- the counts of the second pass, at a packet whose plan came out as b
-  pub changed_more : (e : List ℕ) (i n : ℕ) (b : Bool) → b ≡ changes (plan (packet_at e i)) → n ≡ changed_count plan (map (packet_at e) (range_with_len 0 i))
-      → n + cond b 1 0 ≡ changed_count plan (map (packet_at e) (range_with_len 0 (i + 1)))
-  changed_more e i n b t h =
-      ap (λ (k : ℕ). k + cond b 1 0) h
-      ∙ ap (λ (v : Bool). changed_count plan (map (packet_at e) (range_with_len 0 i)) + cond v 1 0) t
-      ∙ sym (sum_by-map-range_with_len_more (λ p. cond (changes (plan p)) 1 0) (packet_at e) 0 i i (zero-add i))
-
-  pub passed_more : (e : List ℕ) (i n : ℕ) (b : Bool) → b ≡ changes (plan (packet_at e i)) → n ≡ passed_count plan (map (packet_at e) (range_with_len 0 i))
-      → n + cond b 0 1 ≡ passed_count plan (map (packet_at e) (range_with_len 0 (i + 1)))
-  passed_more e i n b t h =
-      ap (λ (k : ℕ). k + cond b 0 1) h
-      ∙ ap (λ (v : Bool). passed_count plan (map (packet_at e) (range_with_len 0 i)) + cond v 0 1) t
-      ∙ sym (sum_by-map-range_with_len_more (λ p. cond (changes (plan p)) 0 1) (packet_at e) 0 i i (zero-add i))
+-- a count over the second pass, at a packet whose plan came out as b
+pub count_more : {X F : Type 0} (plan : List ℕ → Result (Option X) F) (weight : Bool → ℕ) (e : List ℕ) (i n : ℕ) (b : Bool) → b ≡ changes (plan (packet_at e i))
+    → n ≡ sum_by (λ p. weight (changes (plan p))) (map (packet_at e) (range_with_len 0 i))
+    → n + weight b ≡ sum_by (λ p. weight (changes (plan p))) (map (packet_at e) (range_with_len 0 (i + 1)))
+count_more plan weight e i n b t h =
+    ap (λ (k : ℕ). k + weight b) h
+    ∙ ap (λ (v : Bool). sum_by (λ p. weight (changes (plan p))) (map (packet_at e) (range_with_len 0 i)) + weight v) t
+    ∙ sym (sum_by-map-range_with_len_more (λ p. weight (changes (plan p))) (packet_at e) 0 i i (zero-add i))
 
 -- the packets of a batch that was turned packet by packet, each to 188 bytes
 packet_in_front : (f : List ℕ → List ℕ) (ps : List (List ℕ)) (i : ℕ) → ((k : ℕ) → k < length ps → length (f (get_or ps k [])) ≡ 188) → i < length ps

@@ -1,5 +1,5 @@
 -- A batch of packets under a plan for each: the first that the plan refuses decides, else each is changed as planned.
-use Rattle.std.specs.Prelude.{ℕ, ◌+◌, ◌*◌, ◌/◌, Bool, true, false, cond, List, [], ◌∷◌, ◌++◌, map, length, take, drop, Some, None, Ok, Err, sum_by, Option, Result}
+use Rattle.std.specs.Prelude.{ℕ, ◌+◌, ◌*◌, ◌/◌, Bool, true, false, cond, List, [], ◌∷◌, map, length, take, drop, Some, None, Ok, Err, sum_by, Option, Result}
 use Rattle.std.specs.List.{range_with_len, flat_map}
 
 -- the packet at place i of a batch

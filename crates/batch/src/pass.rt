@@ -92,7 +92,7 @@ impl<C: Cipher, T: TailRule, K: Keyring> Pass<'_, C, T, K> {
         let mut prepared = None;
         let mut changed = 0;
         let mut passed = 0;
-        // By place: std says nothing of what a slice holds after `chunks_exact_mut` or `as_chunks_mut`.
+        // By place: of what `chunks_exact_mut`, `as_chunks_mut` or `as_mut_array` write, the proof knows nothing.
         for i in 0..batch.len() / PACKET_LEN {
             let at = PACKET_LEN * i;
             if self.follow(&mut prepared, area, &mut batch[at..at + PACKET_LEN]) {
@@ -116,7 +116,11 @@ impl<C: Cipher, T: TailRule, K: Keyring> Pass<'_, C, T, K> {
         let Ok(Some(how)) = plan(self.direction, self.keys, header_of(packet)) else {
             return false;
         };
-        prepare(&self.profile.cipher, how.word, prepared, area);
+        // The schedule of the word may be in the area already.
+        if *prepared != Some(how.word) {
+            self.profile.cipher.prepare(how.word, area);
+            *prepared = Some(how.word);
+        }
         self.change(how, area, packet);
         true
     }
@@ -144,26 +148,12 @@ impl<C: Cipher, T: TailRule, K: Keyring> Pass<'_, C, T, K> {
     }
 }
 
-// Has the schedule of the word in the area: nothing is done where it is there already.
-fn prepare<C: Cipher>(cipher: &C, word: Word, prepared: &mut Option<Word>, area: &mut [u8])
-    requires long { length area.old ≡ C.Cipher.SCHEDULE }
-    requires prepared { Prepared (C.Cipher.schedule cipher.now) prepared.old area.old }
-    ensures is { area.new ≡ C.Cipher.schedule cipher.now word }
-    ensures prepared { Prepared (C.Cipher.schedule cipher.now) prepared.new area.new }
-{
-    if *prepared == Some(word) {
-        return;
-    }
-    cipher.prepare(word, area);
-    *prepared = Some(word);
-}
-
 // The header of a packet.
 fn header_of(packet: &[u8]) -> Header
-    requires { length packet.now ≡ 188 }
+    requires { 5 ≤ length packet.now }
     ensures { result ≡ header_of packet.now }
 {
-    Header::from_bytes([packet[0], packet[1], packet[2], packet[3], packet[4]])
+    Header::from_bytes(*packet.first_chunk().unwrap())
 }
 
 // The objection to the packet at that place of the batch.

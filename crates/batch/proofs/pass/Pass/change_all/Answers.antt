@@ -1,10 +1,10 @@
-use Rattle.std.proofs.Common.{◌≡◌, ℕ, ◌+◌, ◌*◌, ◌/◌, ◌<◌, Bool, true, false, cond, List, map, length, take, drop, sym, ap, ◌∙◌, arith}
+use Rattle.std.proofs.Common.{◌≡◌, ℕ, ◌/◌, ◌<◌, true, false, cond, List, map, length, sym, ap, ◌∙◌, arith}
 use Rattle.std.specs.List.{range_with_len}
 use Rattle.cipher.specs.Profiles.{meaning}
 use Rattle.batch.specs.Batches.{changed}
 use Rattle.batch.specs.Packets.{packet_at, packets, changes, followed, changed_count, passed_count}
 use Rattle.batch.specs.Plan.{keys_of, plan_of}
-use Rattle.batch.proofs.Passes.{part_of, packet_length, change_step, changed_more, passed_more, change_all}
+use Rattle.batch.proofs.Passes.{part_of, packet_length, change_step, count_more, change_all}
 use Rattle.batch.proofs.pass.Pass.change_all.Goals as goal
 use Rattle.batch.proofs.pass.Pass.change_all.Goals.{then-follow, else-follow}
 
@@ -29,15 +29,17 @@ loop-i-preserved g c =
     let test = c.follow.ensures.value ∙ ap (λ (p : List ℕ). changes (plan p)) part in
     let size = c.follow.auto.packet ∙ ap length part ∙ packet_length e i inside in
     let step = change_step f e b c.follow.new.packet i inside c.loop-i.auto.batch c.loop-i.invariant.0 c.loop-i.invariant.1 (c.follow.ensures.after ∙ ap f part) size in
-    let counts : (v : Bool) → c.follow.result ≡ v → (c.loop-i.changed + cond v 1 0 ≡ changed_count plan (map (packet_at e) (range_with_len 0 (i + 1)))) × (c.loop-i.passed + cond v 0 1 ≡ passed_count plan (map (packet_at e) (range_with_len 0 (i + 1))))
-    = λ v h. (changed_more plan e i c.loop-i.changed v (sym h ∙ test) c.loop-i.invariant.2, passed_more plan e i c.loop-i.passed v (sym h ∙ test) c.loop-i.invariant.3) in
     elim c.if-follow.branch [
       | then-follow w ↦
-          let n = counts true w.if-follow.true in
-          (step.0, step.1, omega (arith, n.0, w.changed-is), omega (arith, n.1, w.passed-is), omega (arith, w.changed-is, w.passed-is), c.follow.ensures.prepared)
+          let is = sym w.if-follow.true ∙ test in
+          let n = count_more plan (λ v. cond v 1 0) e i c.loop-i.changed true is c.loop-i.invariant.2 in
+          let k = count_more plan (λ v. cond v 0 1) e i c.loop-i.passed true is c.loop-i.invariant.3 in
+          (step.0, step.1, omega (arith, n, w.changed-is), omega (arith, k, w.passed-is), omega (arith, w.changed-is, w.passed-is), c.follow.ensures.prepared)
       | else-follow w ↦
-          let n = counts false w.if-follow.false in
-          (step.0, step.1, omega (arith, n.0, w.changed-is), omega (arith, n.1, w.passed-is), omega (arith, w.changed-is, w.passed-is), c.follow.ensures.prepared)
+          let is = sym w.if-follow.false ∙ test in
+          let n = count_more plan (λ v. cond v 1 0) e i c.loop-i.changed false is c.loop-i.invariant.2 in
+          let k = count_more plan (λ v. cond v 0 1) e i c.loop-i.passed false is c.loop-i.invariant.3 in
+          (step.0, step.1, omega (arith, n, w.changed-is), omega (arith, k, w.passed-is), omega (arith, w.changed-is, w.passed-is), c.follow.ensures.prepared)
     ]
 
 pub returns : goal.returns
