@@ -3,4 +3,5 @@ pub mod Chain
 pub mod Laws
 pub mod Profiles
 pub mod Restores
+pub mod Turns
 pub mod Xors

@@ -6,6 +6,7 @@ pub fn xor_into(bytes: &mut [u8], mask: &[u8])
     ensures { bytes.new ≡ xors bytes.old mask.now }
 {
     let n = bytes.len().min(mask.len());
+    // By index: of a slice that iter_mut().zip(..) wrote through, a proof knows only the length.
     for i in 0..n {
         bytes[i] ^= mask[i];
     }

@@ -1,6 +1,8 @@
 ghost use Rattle.std.specs.Prelude.{◌≡◌, length};
 
+mod chain;
 mod chaining;
+mod direction;
 
 pub use chaining::ScheduleLength;
 

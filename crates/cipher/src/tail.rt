@@ -50,12 +50,7 @@ impl TailRule for MaskedTail {
 
     ghost off = { λ s mask tail. xors tail mask };
 
-    ghost inverts = { λ s. record {
-      on_long = λ mask tail. length_xors tail mask;
-      off_long = λ mask tail. length_xors tail mask;
-      off_on = λ mask tail h b. xors_back tail mask;
-      on_off = λ mask tail h b. xors_back tail mask;
-    } };
+    ghost inverts = { Prim.search (rules, length_xors, xors_back) };
 
     fn scramble_tail(&self, mask: &[u8], tail: &mut [u8]) {
         xor_into(tail, mask);

@@ -1,0 +1,6 @@
+/// Whether a payload is scrambled or descrambled.
+#[derive(Clone, Copy)]
+pub enum Direction {
+    Scramble,
+    Descramble,
+}
