@@ -1,3 +1,4 @@
+pub mod Ciphers
 pub mod Keys
 pub mod Vectors
 pub mod WordKeys

@@ -4,14 +4,10 @@ ghost use Rattle.aes.specs.KeyExpansion.{key_expansion};
 ghost use Rattle.aes.specs.Rounds.{cipher as aes_cipher};
 ghost use Rattle.des.specs.Cipher.{enciphered, deciphered};
 ghost use Rattle.des.specs.Schedule.{key_schedule};
+ghost use Rattle.profile.specs.Ciphers.{aes_laws, des_laws};
 ghost use Rattle.profile.specs.Keys.{des_key};
 ghost use Rattle.word.specs.Words.{word_bytes};
-ghost use Rattle.aes.proofs.KeyWords;
-ghost use Rattle.aes.proofs.KeyWords.{key_expansion_bytes};
-ghost use Rattle.profile.specs.WordKeys.{word_block};
 ghost use Rattle.std.proofs.Common.{rules};
-ghost use Rattle.des.proofs.Inverts.{inverse};
-ghost use Rattle.des.proofs.Keys.{key_schedule_bytes};
 
 use cipher::Cipher;
 use word::Word;
@@ -37,13 +33,7 @@ impl Cipher for Aes128 {
 
     ghost sizes = { Prim.search rules };
 
-    ghost inverts = { λ s. record {
-      schedule_long = λ w. (key_expansion_bytes (word_bytes w) (word_block w)).0;
-      E_block = λ w b h. (KeyWords.inverts (word_bytes w) b (word_block w) h).cipher_bytes;
-      D_block = λ w b h. (KeyWords.inverts (word_bytes w) b (word_block w) h).inv_cipher_bytes;
-      D_E = λ w b h. (KeyWords.inverts (word_bytes w) b (word_block w) h).inv_cipher_of_cipher;
-      E_D = λ w b h. (KeyWords.inverts (word_bytes w) b (word_block w) h).cipher_of_inv_cipher;
-    } };
+    ghost inverts = { λ s. aes_laws };
 
     fn prepare(&self, word: Word, area: &mut [u8]) {
         aes::key_expansion(&word.to_bytes(), area);
@@ -79,13 +69,7 @@ impl Cipher for Des {
 
     ghost sizes = { Prim.search rules };
 
-    ghost inverts = { λ s. record {
-      schedule_long = λ w. (key_schedule_bytes (des_key w)).0;
-      E_block = λ w b h. (inverse (key_schedule (des_key w)) b h).enciphered_bytes;
-      D_block = λ w b h. (inverse (key_schedule (des_key w)) b h).deciphered_bytes;
-      D_E = λ w b h. (inverse (key_schedule (des_key w)) b h).deciphers;
-      E_D = λ w b h. (inverse (key_schedule (des_key w)) b h).enciphers;
-    } };
+    ghost inverts = { λ s. des_laws };
 
     fn prepare(&self, word: Word, area: &mut [u8]) {
         let [a, b, c, d, e, f, g, h, ..] = word.to_bytes();

@@ -4,10 +4,7 @@ ghost use Rattle.profile.specs.Vectors.{cissa_vector, zero_vector};
 use crate::ciphers::{Aes128, Des};
 use cipher::{ClearTail, MaskedTail, Profile};
 
-// The letters DVBTMCPTAESCISSA.
-const CISSA_IV: [u8; 16] = [
-    0x44, 0x56, 0x42, 0x54, 0x4d, 0x43, 0x50, 0x54, 0x41, 0x45, 0x53, 0x43, 0x49, 0x53, 0x53, 0x41,
-];
+const CISSA_IV: [u8; 16] = *b"DVBTMCPTAESCISSA";
 
 /// CISSA (ETSI TS 103 127, clause 6): AES-128, the clear rule and a vector of its own.
 pub fn cissa_profile() -> Profile<Aes128, ClearTail>
