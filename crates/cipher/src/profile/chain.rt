@@ -12,6 +12,7 @@ use crate::profile::direction::Direction;
 pub struct Chain<'a, C: Cipher> {
     pub cipher: &'a C,
     pub schedule: &'a [u8],
+    // 16 is the widest block: no array has a length that hangs on a type parameter.
     pub value: [u8; 16],
     ghost width: { (0 < C.Cipher.WIDTH) × (C.Cipher.WIDTH ≤ 16) },
     ghost schedule_long: { length schedule.now ≡ C.Cipher.SCHEDULE },

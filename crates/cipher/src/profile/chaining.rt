@@ -65,6 +65,7 @@ impl<C: Cipher, T: TailRule> Profile<C, T> {
         ensures { (w : Word) → chain.entry.schedule.now ≡ C.Cipher.schedule self.now.cipher w → payload.new ≡ turned_blocks direction (meaning C.Cipher T.TailRule self.now) w (length payload.old / C.Cipher.WIDTH) (take C.Cipher.WIDTH chain.entry.value) payload.old }
     {
         let whole = payload.len() - payload.len() % C::WIDTH;
+        // Starts and not chunks_exact_mut, after which a proof knows only the payload's length.
         for at in (0..whole).step_by(C::WIDTH) {
             chain.turn(direction, &mut payload[at..at + C::WIDTH]);
         }
