@@ -2,7 +2,6 @@
 use Rattle.std.proofs.Common.{◌≡◌, ℕ, ◌+◌, ◌*◌, ◌/◌, ◌<◌, Bool, true, false, cond, eqb, List, [], ◌∷◌, length, drop, Some, None, Ok, Err, Result, sym, refl, ap, ◌∙◌, subst, arith}
 use Rattle.std.proofs.ByRecursion.{All-take, All-drop}
 use Rattle.std.proofs.lemmas.List.Sums.{sum_by-cons}
-use Rattle.std.proofs.lemmas.Bool.{true≢false}
 use Rattle.batch.proofs.Passes.{packet_length, packet_of_turned, packets_length}
 use Rattle.batch.proofs.Plans.{change_inside}
 use Rattle.batch.specs.Batches.{batch_after, batch_answer, changed, counted, fits, objection_at}
@@ -44,12 +43,12 @@ packet_after d m keys batch i laws iv hb h =
 -- a plan that changes a packet
 planned_change : (r : Plan) → changes r ≡ true → (c : Change) × (r ≡ Ok (Some c))
 planned_change (Ok (Some c)) e = (c, refl)
-planned_change (Ok None) e = absurd (true≢false (sym e))
-planned_change (Err f) e = absurd (true≢false (sym e))
+planned_change (Ok None) e = absurd (cc)
+planned_change (Err f) e = absurd (cc)
 
 -- one that does not
 unchanged : (f : Change → List ℕ → List ℕ) (r : Plan) (p : List ℕ) → changes r ≡ false → follow f r p ≡ p
-unchanged f (Ok (Some c)) p e = absurd (true≢false e)
+unchanged f (Ok (Some c)) p e = absurd (cc)
 unchanged f (Ok None) p e = refl
 unchanged f (Err x) p e = refl
 
@@ -89,15 +88,12 @@ pub accepted : (d : Direction) (m : Meaning) (keys : Keys) (area : ℕ) (batch :
 accepted d m keys area batch counts e =
     go (eqb area m.schedule_length) (fits (length batch)) (first_fault (plan_of d keys) objection_at 0 (packets batch)) refl refl refl e
   where
-    no : (f : BatchFault) → ◌≡◌ {A = Result (ℕ × ℕ) BatchFault} (Ok counts) (Err f) → ⊥
-    no f e = let z : ◌≡◌ {A = ℕ} 0 1 = cc in omega arith
-
     go : (x y : Bool) (r : Result (Unit {0}) BatchFault) → eqb area m.schedule_length ≡ x → fits (length batch) ≡ y → first_fault (plan_of d keys) objection_at 0 (packets batch) ≡ r
         → Ok counts ≡ cond x (cond y (counted r (changed_count (plan_of d keys) (packets batch), passed_count (plan_of d keys) (packets batch))) (Err (BatchLength (length batch)))) (Err (KeyArea area)) → Accepted d m keys area batch counts
-    go true true (Ok u) a f r e = record { area_fits = a; batch_fits = f; none_refused = r; counts_are = (cc) }
-    go true true (Err x) a f r e = absurd (no x e)
-    go true false r a f q e = absurd (no _ e)
-    go false y r a f q e = absurd (no _ e)
+    go true true (Ok u) a f r e = record { area_fits = a; batch_fits = f; none_refused = r; counts_are = cc }
+    go true true (Err x) a f r e = absurd (cc)
+    go true false r a f q e = absurd (cc)
+    go false y r a f q e = absurd (cc)
 
 -- each packet is counted once
 count_all : (plan : List ℕ → Plan) (ps : List (List ℕ)) → changed_count plan ps + passed_count plan ps ≡ length ps

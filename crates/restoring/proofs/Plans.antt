@@ -5,7 +5,7 @@ use Rattle.batch.specs.Batches.{control_after}
 use Rattle.batch.specs.Plan.{Keys, Plan, with_word, with_picked, scramble_plan, descramble_plan, with_payload, with_service, plan_for}
 use Rattle.batch.specs.declared.plan.Change.{Change}
 use Rattle.batch.specs.declared.plan.Direction.TheVariants.{Scramble, Descramble}
-use Rattle.batch.specs.declared.plan.Objection.TheVariants.{BadHeader, NoWord}
+use Rattle.batch.specs.declared.plan.Objection.TheVariants.{BadHeader}
 use Rattle.packet.specs.Header.{control_of, payload_start, start_of}
 use Rattle.packet.specs.declared.faults.HeaderFault.{HeaderFault}
 use Rattle.packet.specs.declared.faults.HeaderFault.TheVariants.{Sync, AdaptationLength}
@@ -18,21 +18,15 @@ use Rattle.word.specs.declared.parity.Parity.{Parity}
 use Rattle.word.specs.declared.parity.Parity.TheVariants as parity
 use Rattle.word.specs.declared.word.Word.{Word}
 
-refused : {A F : Type 0} (f : F) (a : A) → ◌≡◌ {A = Result A F} (Err f) (Ok a) → ⊥
-refused f a e = let z : ◌≡◌ {A = ℕ} 0 1 = cc in omega arith
-
-passed : {A F : Type 0} (a : A) → ◌≡◌ {A = Result (Option A) F} (Ok None) (Ok (Some a)) → ⊥
-passed a e = let z : ◌≡◌ {A = ℕ} 0 1 = cc in omega arith
-
 -- the control bits that read as clear
 pub clear_bits : (bits : ℕ) → control_of bits ≡ control.Clear → bits ≡ 0
 clear_bits bits e = eqb-true bits 0 (go (eqb bits 0) (eqb bits 1) (eqb bits 2) e)
   where
     go : (x y z : Bool) → cond x control.Clear (cond y control.Reserved (cond z control.Even control.Odd)) ≡ control.Clear → x ≡ true
     go true y z e = refl
-    go false true z e = let n : ◌≡◌ {A = ℕ} 0 1 = cc in absurd (omega arith)
-    go false false true e = let n : ◌≡◌ {A = ℕ} 0 1 = cc in absurd (omega arith)
-    go false false false e = let n : ◌≡◌ {A = ℕ} 0 1 = cc in absurd (omega arith)
+    go false true z e = cc
+    go false false true e = cc
+    go false false false e = cc
 
 -- the same start where the byte after the header, if it is no payload, is the same
 pub same_start : (a : AdaptationControl) (n k start : ℕ) → start_of a n ≡ Ok (Some start) → (5 ≤ start → k ≡ n) → start_of a k ≡ Ok (Some start)
@@ -41,12 +35,12 @@ same_start adaptation.PayloadOnly n k start e h = e
 same_start adaptation.AdaptationOnly n k start e h = absurd (go (eqb n 183) e)
   where
     go : (v : Bool) → cond v (Ok None) (Err (AdaptationLength n)) ≡ Ok (Some start) → ⊥
-    go true e = passed start e
-    go false e = refused (AdaptationLength n) (Some start) e
+    go true e = cc
+    go false e = cc
 same_start adaptation.AdaptationAndPayload n k start e h = ap (start_of adaptation.AdaptationAndPayload) (h (go (ltb 182 n) e)) ∙ e
   where
     go : (v : Bool) → cond v (Err (AdaptationLength n)) (Ok (Some (5 + n))) ≡ Ok (Some start) → 5 ≤ start
-    go true e = absurd (refused (AdaptationLength n) (Some start) e)
+    go true e = absurd (cc)
     go false e = let is : 5 + n ≡ start = cc in omega arith
 
 -- what a plan to scramble says
@@ -62,42 +56,42 @@ pub record Planned (keys : Keys) (h : Header) (c : Change) : Type 0 where
 
 sync_ok : (v : Bool) (x : Plan) (c : Change) → cond v x (Err (BadHeader Sync)) ≡ Ok (Some c) → (v ≡ true) × (x ≡ Ok (Some c))
 sync_ok true x c e = (refl, e)
-sync_ok false x c e = absurd (refused (BadHeader Sync) (Some c) e)
+sync_ok false x c e = absurd (cc)
 
 sound_ok : (v : Bool) (x : Plan) (c : Change) → cond v (Ok None) x ≡ Ok (Some c) → (v ≡ false) × (x ≡ Ok (Some c))
-sound_ok true x c e = absurd (passed c e)
+sound_ok true x c e = absurd (cc)
 sound_ok false x c e = (refl, e)
 
 service_ok : (keys : Keys) (h : Header) (o : Option ℕ) (c : Change) → with_service Scramble keys h o ≡ Ok (Some c)
     → (s : ℕ) × (o ≡ Some s) × (with_payload (scramble_plan keys s h.control) (payload_start h) ≡ Ok (Some c))
 service_ok keys h (Some s) c e = (s, refl, e)
-service_ok keys h None c e = absurd (passed c e)
+service_ok keys h None c e = absurd (cc)
 
 payload_ok : (plan : ℕ → Plan) (r : Result (Option ℕ) HeaderFault) (c : Change) → with_payload plan r ≡ Ok (Some c)
     → (start : ℕ) × (r ≡ Ok (Some start)) × (plan start ≡ Ok (Some c))
 payload_ok plan (Ok (Some start)) c e = (start, refl, e)
-payload_ok plan (Ok None) c e = absurd (passed c e)
-payload_ok plan (Err f) c e = absurd (refused (BadHeader f) (Some c) e)
+payload_ok plan (Ok None) c e = absurd (cc)
+payload_ok plan (Err f) c e = absurd (cc)
 
 word_ok : (q : Parity) (start : ℕ) (o : Option Word) (c : Change) → with_word q start o ≡ Ok (Some c) → (o ≡ Some c.word) × (q ≡ c.parity) × (start ≡ c.start)
 word_ok q start (Some w) c e =
     let is : record { word = w; parity = q; start = start } ≡ c = cc in
     (ap (λ (x : Change). Some x.word) is, ap (λ (x : Change). x.parity) is, ap (λ (x : Change). x.start) is)
-word_ok q start None c e = absurd (refused NoWord (Some c) e)
+word_ok q start None c e = absurd (cc)
 
 picked_ok : (keys : Keys) (s start : ℕ) (o : Option Parity) (c : Change) → with_picked keys s start o ≡ Ok (Some c)
     → (o ≡ Some c.parity) × (keys.held s c.parity ≡ Some c.word) × (start ≡ c.start)
 picked_ok keys s start (Some q) c e =
     let w = word_ok q start (keys.held s q) c e in
     (ap (λ (x : Parity). Some x) w.1, ap (keys.held s) (sym w.1) ∙ w.0, w.2)
-picked_ok keys s start None c e = absurd (refused NoWord (Some c) e)
+picked_ok keys s start None c e = absurd (cc)
 
 clear_ok : (keys : Keys) (s start : ℕ) (k : ScramblingControl) (c : Change) → scramble_plan keys s k start ≡ Ok (Some c)
     → (k ≡ control.Clear) × (with_picked keys s start (keys.picked s) ≡ Ok (Some c))
 clear_ok keys s start control.Clear c e = (refl, e)
-clear_ok keys s start control.Reserved c e = absurd (refused _ (Some c) e)
-clear_ok keys s start control.Even c e = absurd (refused _ (Some c) e)
-clear_ok keys s start control.Odd c e = absurd (refused _ (Some c) e)
+clear_ok keys s start control.Reserved c e = absurd (cc)
+clear_ok keys s start control.Even c e = absurd (cc)
+clear_ok keys s start control.Odd c e = absurd (cc)
 
 pub planned : (keys : Keys) (h : Header) (c : Change) → plan_for Scramble keys h ≡ Ok (Some c) → Planned keys h c
 planned keys h c e =
@@ -141,15 +135,15 @@ never_passed : (keys : Keys) (s start : ℕ) (k : ScramblingControl) → scrambl
 never_passed keys s start control.Clear e = picked (keys.picked s) e
   where
     word : (q : Parity) (o : Option Word) → with_word q start o ≡ Ok None → ⊥
-    word q (Some w) e = passed (record { word = w; parity = q; start = start }) (sym e)
-    word q None e = refused NoWord _ e
+    word q (Some w) e = cc
+    word q None e = cc
 
     picked : (o : Option Parity) → with_picked keys s start o ≡ Ok None → ⊥
     picked (Some q) e = word q (keys.held s q) e
-    picked None e = refused NoWord _ e
-never_passed keys s start control.Reserved e = refused _ _ e
-never_passed keys s start control.Even e = refused _ _ e
-never_passed keys s start control.Odd e = refused _ _ e
+    picked None e = cc
+never_passed keys s start control.Reserved e = cc
+never_passed keys s start control.Even e = cc
+never_passed keys s start control.Odd e = cc
 
 -- what passes when it is to be scrambled passes when it is to be descrambled
 pub passed_back : (keys : Keys) (h : Header) → plan_for Scramble keys h ≡ Ok None → plan_for Descramble keys h ≡ Ok None

@@ -27,7 +27,7 @@ Answered r = (o : Option Change) × (r ≡ Ok o)
 
 ok_first : (r : Plan) (up : Objection → BatchFault) (rest : Result (Unit {0}) BatchFault) → or_else r up rest ≡ Ok tt → Answered r × (rest ≡ Ok tt)
 ok_first (Ok o) up rest e = ((o, refl), e)
-ok_first (Err f) up rest e = let z : ◌≡◌ {A = ℕ} 0 1 = cc in absurd (omega arith)
+ok_first (Err f) up rest e = absurd (cc)
 
 -- none is refused where none is faulty
 answered_in : (plan : List ℕ → Plan) (ps : List (List ℕ)) (k i : ℕ) → first_fault plan objection_at k ps ≡ Ok tt → i < length ps → Answered (plan (get_or ps i []))
@@ -82,7 +82,7 @@ packet_again m keys p (Ok (Some c)) laws iv hp e a =
     )
 packet_again m keys p (Ok None) laws iv hp e a =
     let back = passed_back keys (header_of p) e in ((None, back), ap (λ (r : Plan). follow (changed Descramble m) r p) back)
-packet_again m keys p (Err f) laws iv hp e a = let n = a.1 in let z : ◌≡◌ {A = ℕ} 0 1 = cc in absurd (omega arith)
+packet_again m keys p (Err f) laws iv hp e a = let n = a.1 in absurd (cc)
 
 accepts : (m : Meaning) (keys : Keys) (area : ℕ) (batch : List ℕ) → eqb area m.schedule_length ≡ true → fits (length batch) ≡ true
     → first_fault (plan_of Descramble keys) objection_at 0 (packets batch) ≡ Ok tt → is_ok (batch_answer Descramble m keys area batch) ≡ true
