@@ -1,9 +1,8 @@
 -- The key schedule, word after word: its length, that it holds bytes, and the words that are read while it is written.
-use Rattle.std.proofs.Common.{◌≡◌, ℕ, zero, suc, ◌+◌, ◌-◌, ◌*◌, ◌/◌, ◌%◌, ◌<◌, ◌≤◌, true, false, cond, eqb, List, [], ◌∷◌, ◌++◌, length, get_or, take, drop, sym, refl, ap, ◌∙◌, ap₂, append_assoc, arith, lit<, length-append, length-drop, length-take, drop-drop, take_at, drop_at}
+use Rattle.std.proofs.Common.{◌≡◌, ℕ, zero, suc, ◌+◌, ◌-◌, ◌*◌, ◌/◌, ◌%◌, ◌<◌, ◌≤◌, true, false, cond, eqb, List, ◌++◌, length, take, drop, sym, refl, ap, ◌∙◌, ap₂, append_assoc, arith, lit<, length-append, length-drop, length-take, drop-drop, take_at, drop_at}
 use lib.Seq.{take-append-le, drop-append-le}
 use borrow.Rule.Slice.PartMut.{put_mid}
 use Rattle.std.proofs.ByRecursion.{All-append, All-take, All-drop}
-use Rattle.std.proofs.lemmas.List.{drop_more}
 use Rattle.aes.specs.SBox.{s_box}
 use Rattle.aes.specs.State.{Bytes, xor_bytes}
 use Rattle.aes.specs.Laws.{Inverts}
@@ -90,17 +89,3 @@ pub put_after : (p old ys : List ℕ) (a k : ℕ) → length p ≡ a → put_mid
 put_after p old ys a k e =
     ap₂ ◌++◌ (take_at p (drop a old) a e) (ap (λ t. ys ++ t) (ap (drop k) (drop_at p (drop a old) a e) ∙ drop-drop k a old))
     ∙ sym (append_assoc p ys (drop (a + k) old))
-
--- the word from place n on, byte by byte
-pub four_from : (w : List ℕ) (n : ℕ) → n + 3 < length w → get_or w n 0 ∷ get_or w (n + 1) 0 ∷ get_or w (n + 2) 0 ∷ get_or w (n + 3) 0 ∷ [] ≡ take 4 (drop n w)
-four_from w n h =
-    sym
-    (ap (take 4)
-    (step n (n + 1) (omega arith) (omega arith)
-    ∙ ap {B = List ℕ} (◌∷◌ (get_or w n 0))
-    (step (n + 1) (n + 2) (omega arith) (omega arith)
-    ∙ ap {B = List ℕ} (◌∷◌ (get_or w (n + 1) 0))
-    (step (n + 2) (n + 3) (omega arith) (omega arith) ∙ ap {B = List ℕ} (◌∷◌ (get_or w (n + 2) 0)) (step (n + 3) (n + 4) (omega arith) (omega arith))))))
-  where
-    step : (i j : ℕ) → i + 1 ≡ j → i < length w → drop i w ≡ get_or w i 0 ∷ drop j w
-    step i j e l = drop_more w i 0 l ∙ ap (λ m. get_or w i 0 ∷ drop m w) e

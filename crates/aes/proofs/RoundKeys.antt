@@ -1,22 +1,22 @@
 -- The round keys as the parts of a key schedule, and the rounds that are left while they are taken from the end.
-use Rattle.std.proofs.Common.{◌≡◌, ℕ, zero, suc, ◌+◌, ◌*◌, ◌<◌, List, [], ◌∷◌, length, get_or, take, drop, sym, refl, ap, ◌∙◌, arith, drop-drop}
+use Rattle.std.proofs.Common.{◌≡◌, ℕ, zero, suc, ◌+◌, ◌*◌, ◌<◌, List, [], ◌∷◌, length, get_or, take, drop, sym, refl, ap, ◌∙◌, mul-zero, mul-suc, arith, drop-drop}
 use Rattle.std.proofs.lemmas.List.{get_or-take, get_or-drop, get_or_push, get_or_append_left, length_push}
 use Rattle.std.specs.List.{push}
 use Rattle.std.specs.Simd.{first_chunks}
 use Rattle.aes.specs.Rounds.{round_key}
 use Rattle.aes.specs.Inverse.{inv_cipher_round, inv_cipher_rounds}
 
-chunk_key : (w : List ℕ) (n k : ℕ) → k < n → get_or (first_chunks 16 n w) k [] ≡ round_key w k
-unfolding round_key
-chunk_key w zero k h = absurd (omega arith)
-chunk_key w (suc n) zero h = refl
-chunk_key w (suc n) (suc k) h =
-    let e : 16 + 16 * k ≡ 16 * suc k = omega arith in
-    chunk_key (drop 16 w) n k (omega arith) ∙ ap (take 16) (drop-drop (16 * k) 16 w ∙ ap (λ m. drop m w) e)
+pub chunk : (m : ℕ) (w : List ℕ) (n k : ℕ) → k < n → get_or (first_chunks m n w) k [] ≡ take m (drop (m * k) w)
+chunk m w zero k h = absurd (omega arith)
+chunk m w (suc n) zero h = ap (λ j. take m (drop j w)) (sym (mul-zero m))
+chunk m w (suc n) (suc k) h =
+    let e : m + m * k ≡ m * suc k = omega (arith, mul-suc m k) in
+    chunk m (drop m w) n k (omega arith) ∙ ap (take m) (drop-drop (m * k) m w ∙ ap (λ j. drop j w) e)
 
 module _ (w : List ℕ) (keys : List (List ℕ)) (e : keys ≡ first_chunks 16 11 w) where
   pub key_at : (k : ℕ) → k < 11 → get_or keys k [] ≡ round_key w k
-  key_at k h = ap (λ ks. get_or ks k []) e ∙ chunk_key w 11 k h
+  unfolding round_key
+  key_at k h = ap (λ ks. get_or ks k []) e ∙ chunk 16 w 11 k h
 
   -- in a part that begins at the second
   pub part_key : (n k : ℕ) → k < n → k < 10 → get_or (take n (drop 1 keys)) k [] ≡ round_key w (suc k)

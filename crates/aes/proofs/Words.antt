@@ -117,11 +117,11 @@ summed f linear a b c d p q r s ep eq er es e =
     e ∙ ap₂ xor_bytes (ap₂ xor_bytes (ap₂ xor_bytes ep (ap (turned 1) eq)) (ap (turned 2) er)) (ap (turned 3) es) ∙ column_sum f linear a b c d
 
 -- a column of f of a byte of each of four columns, and the key's word
-pub keyed_diagonal : (f : ℕ → ℕ) (x y z u p q r s t key : ℕ) → p < 256 → q < 256 → r < 256 → s < 256 →
+pub keyed_diagonal_lem : (f : ℕ → ℕ) (x y z u p q r s t key : ℕ) → p < 256 → q < 256 → r < 256 → s < 256 →
     p ≡ f (get_or (word_bytes x) 0 0) → q ≡ f (get_or (word_bytes y) 1 0) → r ≡ f (get_or (word_bytes z) 2 0) → s ≡ f (get_or (word_bytes u) 3 0) →
     t ≡ p + q * 256 + r * 65536 + s * 16777216 → word_bytes (bit_xor t key) ≡ xor_bytes (diagonal f x y z u) (word_bytes key)
 unfolding diagonal
-keyed_diagonal f x y z u p q r s t key hp hq hr hs ep eq er es e =
+keyed_diagonal_lem f x y z u p q r s t key hp hq hr hs ep eq er es e =
     xor_bytes_lem t key ∙ ap (λ a. xor_bytes a (word_bytes key)) (ap word_bytes e ∙ made_bytes p q r s hp hq hr hs ∙ same_bytes ep eq er es)
 
 -- the bytes of four words

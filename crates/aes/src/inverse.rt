@@ -2,24 +2,11 @@
 ghost use Rattle.std.specs.Prelude.{◌≡◌, length};
 ghost use Rattle.aes.specs.Inverse.{inv_cipher, inv_cipher_round, inv_mix_byte, inv_shift_rows, inv_sub_bytes};
 ghost use Rattle.aes.specs.Rounds.{add_round_key};
-ghost use Rattle.aes.specs.SBox.{inv_s_box};
-ghost use Rattle.aes.specs.State.{xor_bytes};
-ghost use Rattle.aes.specs.Words.{column_of, diagonal, state_bytes, word_bytes};
+ghost use Rattle.aes.specs.Words.{column_of, state_bytes, word_bytes};
 
 use crate::inv_mix_table::inv_mixed;
 use crate::inv_s_box::inv_sub_byte;
-use crate::state::{State, round_keys, turned_sum};
-
-// A column after InvShiftRows, InvSubBytes and AddRoundKey, from the four columns that InvShiftRows takes its bytes from.
-fn inv_column(a: u32, b: u32, c: u32, d: u32, key: u32) -> u32
-    ensures { word_bytes result ≡ xor_bytes (diagonal inv_s_box a b c d) (word_bytes key) }
-{
-    let p = inv_sub_byte(a.to_le_bytes()[0]);
-    let q = inv_sub_byte(b.to_le_bytes()[1]);
-    let r = inv_sub_byte(c.to_le_bytes()[2]);
-    let s = inv_sub_byte(d.to_le_bytes()[3]);
-    u32::from_le_bytes([p, q, r, s]) ^ key
-}
+use crate::state::{State, keyed_diagonal, round_keys, turned_sum};
 
 // InvMixColumns at one column.
 fn inv_mix_column(x: u32) -> u32
@@ -30,15 +17,16 @@ fn inv_mix_column(x: u32) -> u32
 }
 
 // InvShiftRows, InvSubBytes and AddRoundKey.
+// Apart from `last_round`: which columns a row is shifted from is all that either says.
 fn last_inv_round(state: State, key: State) -> State
     ensures { state_bytes result ≡ add_round_key (inv_sub_bytes (inv_shift_rows (state_bytes state))) (state_bytes key) }
 {
     let State { c0, c1, c2, c3 } = state;
     State {
-        c0: inv_column(c0, c3, c2, c1, key.c0),
-        c1: inv_column(c1, c0, c3, c2, key.c1),
-        c2: inv_column(c2, c1, c0, c3, key.c2),
-        c3: inv_column(c3, c2, c1, c0, key.c3),
+        c0: keyed_diagonal(inv_sub_byte, c0, c3, c2, c1, key.c0),
+        c1: keyed_diagonal(inv_sub_byte, c1, c0, c3, c2, key.c1),
+        c2: keyed_diagonal(inv_sub_byte, c2, c1, c0, c3, key.c2),
+        c3: keyed_diagonal(inv_sub_byte, c3, c2, c1, c0, key.c3),
     }
 }
 
@@ -56,6 +44,7 @@ fn inv_cipher_round(state: State, key: State) -> State
 }
 
 // InvCipher: decrypts a block in place, under the key schedule of `cipher`.
+// Apart from `cipher`: the round, the last round and the order of the keys all differ.
 pub fn inv_cipher(schedule: &[u8], block: &mut [u8])
     requires { (length schedule.now ≡ 176) × (length block.old ≡ 16) }
     ensures { block.new ≡ inv_cipher schedule.now block.old }

@@ -7,7 +7,7 @@ ghost use Rattle.aes.specs.Words.{column_of, diagonal, state_bytes, word_bytes};
 
 use crate::mix_table::mixed_s_box;
 use crate::s_box::sub_byte;
-use crate::state::{State, round_keys, turned_sum};
+use crate::state::{State, keyed_diagonal, round_keys, turned_sum};
 
 // A column after a round, from the four columns that ShiftRows takes its bytes from.
 fn round_column(a: u32, b: u32, c: u32, d: u32, key: u32) -> u32
@@ -18,17 +18,6 @@ fn round_column(a: u32, b: u32, c: u32, d: u32, key: u32) -> u32
     let r = mixed_s_box(c.to_le_bytes()[2]);
     let s = mixed_s_box(d.to_le_bytes()[3]);
     turned_sum(p, q, r, s) ^ key
-}
-
-// A column after the last round, from the four columns that ShiftRows takes its bytes from.
-fn last_column(a: u32, b: u32, c: u32, d: u32, key: u32) -> u32
-    ensures { word_bytes result ≡ xor_bytes (diagonal s_box a b c d) (word_bytes key) }
-{
-    let p = sub_byte(a.to_le_bytes()[0]);
-    let q = sub_byte(b.to_le_bytes()[1]);
-    let r = sub_byte(c.to_le_bytes()[2]);
-    let s = sub_byte(d.to_le_bytes()[3]);
-    u32::from_le_bytes([p, q, r, s]) ^ key
 }
 
 // A round but the last.
@@ -50,10 +39,10 @@ fn last_round(state: State, key: State) -> State
 {
     let State { c0, c1, c2, c3 } = state;
     State {
-        c0: last_column(c0, c1, c2, c3, key.c0),
-        c1: last_column(c1, c2, c3, c0, key.c1),
-        c2: last_column(c2, c3, c0, c1, key.c2),
-        c3: last_column(c3, c0, c1, c2, key.c3),
+        c0: keyed_diagonal(sub_byte, c0, c1, c2, c3, key.c0),
+        c1: keyed_diagonal(sub_byte, c1, c2, c3, c0, key.c1),
+        c2: keyed_diagonal(sub_byte, c2, c3, c0, c1, key.c2),
+        c3: keyed_diagonal(sub_byte, c3, c0, c1, c2, key.c3),
     }
 }
 

@@ -1,7 +1,7 @@
 // KeyExpansion (FIPS 197, section 5.2). A word is an array of four bytes.
-ghost use Rattle.std.specs.Prelude.{◌≡◌, ◌+◌, ◌*◌, ◌<◌, ◌≤◌, length};
+ghost use Rattle.std.specs.Prelude.{◌≡◌, ◌<◌, ◌≤◌, length};
 ghost use Rattle.aes.specs.State.{xor_bytes};
-ghost use Rattle.aes.specs.KeyExpansion.{rot_word, sub_word, rcon, word_at, addend, next_word, key_expansion};
+ghost use Rattle.aes.specs.KeyExpansion.{rot_word, sub_word, rcon, addend, next_word, key_expansion};
 
 use crate::s_box::sub_byte;
 
@@ -39,20 +39,6 @@ fn xor_words(a: [u8; 4], b: [u8; 4]) -> [u8; 4]
     [a[0] ^ b[0], a[1] ^ b[1], a[2] ^ b[2], a[3] ^ b[3]]
 }
 
-// Word `i` of the key schedule.
-fn word_at(schedule: &[u8], i: usize) -> [u8; 4]
-    requires { 4 * i + 3 < length schedule.now }
-    ensures { result ≡ word_at schedule.now i }
-{
-    let j = 4 * i;
-    [
-        schedule[j],
-        schedule[j + 1],
-        schedule[j + 2],
-        schedule[j + 3],
-    ]
-}
-
 // What is added to the word four before word `i`, from the word before it.
 fn addend_of(i: usize, before: [u8; 4]) -> [u8; 4]
     requires { (4 ≤ i) × (i < 44) }
@@ -70,10 +56,8 @@ fn next_word(schedule: &[u8], i: usize) -> [u8; 4]
     requires { (length schedule.now ≡ 176) × ((4 ≤ i) × (i < 44)) }
     ensures { result ≡ next_word schedule.now i }
 {
-    xor_words(
-        word_at(schedule, i - 4),
-        addend_of(i, word_at(schedule, i - 1)),
-    )
+    let (words, _) = schedule.as_chunks::<4>();
+    xor_words(words[i - 4], addend_of(i, words[i - 1]))
 }
 
 // KeyExpansion: writes the key schedule of a key, eleven round keys.
@@ -82,6 +66,7 @@ pub fn key_expansion(key: &[u8; 16], schedule: &mut [u8])
     ensures { schedule.new ≡ key_expansion key.now }
 {
     schedule[0..16].copy_from_slice(key);
+    // Not over chunks_exact_mut: a word is made of earlier ones, and std says nothing of what the slice holds afterwards.
     for i in 4..44 {
         let word = next_word(schedule, i);
         schedule[4 * i..4 * i + 4].copy_from_slice(&word);

@@ -1,9 +1,9 @@
 // A state as four words, one for each column, with the byte in row 0 lowest.
-ghost use Rattle.std.specs.Prelude.{◌≡◌, length};
+ghost use Rattle.std.specs.Prelude.{◌≡◌, ℕ, length};
 ghost use Rattle.std.specs.Simd.{first_chunks};
 ghost use Rattle.aes.specs.Rounds.{add_round_key};
 ghost use Rattle.aes.specs.State.{xor_bytes};
-ghost use Rattle.aes.specs.Words.{state_bytes, turned, word_bytes};
+ghost use Rattle.aes.specs.Words.{diagonal, state_bytes, turned, word_bytes};
 
 #[derive(Clone, Copy)]
 pub struct State {
@@ -18,6 +18,18 @@ pub fn turned_sum(w: u32, x: u32, y: u32, z: u32) -> u32
     ensures { word_bytes result ≡ xor_bytes (xor_bytes (xor_bytes (word_bytes w) (turned 1 (word_bytes x))) (turned 2 (word_bytes y))) (turned 3 (word_bytes z)) }
 {
     w ^ x.rotate_left(8) ^ y.rotate_left(16) ^ z.rotate_left(24)
+}
+
+// A byte of each of four columns through a box, one row lower from column to column, and a word of the round key.
+pub fn keyed_diagonal<F: Fn(u8) -> u8>(image: F, a: u32, b: u32, c: u32, d: u32, key: u32) -> u32
+    requires { F.IsAlwaysCallable image }
+    ensures { (h : ℕ → ℕ) → ((x y : ℕ) → F.post image x y → y ≡ h x) → word_bytes result ≡ xor_bytes (diagonal h a b c d) (word_bytes key) }
+{
+    let p = image(a.to_le_bytes()[0]);
+    let q = image(b.to_le_bytes()[1]);
+    let r = image(c.to_le_bytes()[2]);
+    let s = image(d.to_le_bytes()[3]);
+    u32::from_le_bytes([p, q, r, s]) ^ key
 }
 
 // The round keys of a key schedule.

@@ -1,5 +1,5 @@
 -- A number and its digits of some bits each: each makes the other.
-use Rattle.std.proofs.Common.{◌≡◌, ℕ, zero, suc, ◌+◌, ◌-◌, ◌*◌, ◌/◌, ◌%◌, ◌^◌, ◌<◌, ◌≤◌, List, [], ◌∷◌, ◌++◌, map, length, get_or, take, drop, fold, sym, refl, ap, ◌∙◌, ap₂, mod-lt, mul_assoc, add-mul, mul-zero, mul-one, mul-suc, div-one, arith, length-drop, pow_pos, pow-add, shl_exact, shr-shr, w64}
+use Rattle.std.proofs.Common.{◌≡◌, ℕ, zero, suc, ◌+◌, ◌-◌, ◌*◌, ◌/◌, ◌%◌, ◌^◌, ◌<◌, ◌≤◌, List, [], ◌∷◌, ◌++◌, map, length, get_or, take, drop, fold, sym, ap, ◌∙◌, ap₂, mod-lt, mul_assoc, add-mul, mul-zero, mul-one, mul-suc, div-one, arith, length-drop, pow_pos, pow-add, shl_exact, shr-shr, w64}
 use native.Mathlib.Nat.{div-eq_of_lt, sub_self}
 use lib.Arith.{digits_lt}
 use lib.Bits.{bit_or, or_shifted}
@@ -8,7 +8,7 @@ use Rattle.std.specs.List.{range_with_len, AllByRecursion}
 use Rattle.std.proofs.lemmas.List.FromFn.{map-range_with_len_more, length-map-range_with_len, get_or-map-range_with_len}
 use Rattle.std.proofs.ByRecursion.{All-drop, All-get_or}
 use Rattle.std.proofs.lemmas.List.{take-append-drop, take_more, ext_get_or}
-use Rattle.std.proofs.lemmas.List.Sums.{fold_push}
+use Rattle.std.proofs.lemmas.List.Sums.{fold_push, fold-append}
 use Rattle.std.proofs.lemmas.Nat.{be_bytes_8}
 use Rattle.std.specs.Int.{from_be_bytes, to_be_bytes}
 use Rattle.des.specs.Bits.{number, groups}
@@ -38,13 +38,9 @@ from w a (x ∷ xs) =
     let g : (0 * p + x) * q ≡ x * q = let z : 0 * p + x ≡ x = omega arith in ap (λ n. n * q) z in
     omega arith
 
-folded_append : (f : ℕ → ℕ → ℕ) (a : ℕ) (xs ys : List ℕ) → fold f a (xs ++ ys) ≡ fold f (fold f a xs) ys
-folded_append f a [] ys = refl
-folded_append f a (x ∷ xs) ys = folded_append f (f a x) xs ys
-
 pub number_append : (w : ℕ) (xs ys : List ℕ) → number w (xs ++ ys) ≡ number w xs * 2 ^ (w * length ys) + number w ys
 unfolding number
-number_append w xs ys = folded_append (λ n d. n * 2 ^ w + d) 0 xs ys ∙ from w (number w xs) ys
+number_append w xs ys = fold-append (λ n d. n * 2 ^ w + d) 0 xs ys ∙ from w (number w xs) ys
 
 pub number_lt : (w : ℕ) (xs : List ℕ) → AllByRecursion (λ x. x < 2 ^ w) xs → number w xs < 2 ^ (w * length xs)
 unfolding number

@@ -40,6 +40,7 @@ fn forwards(keys: &[[u8; 8]], halves: Halves) -> Halves
 }
 
 // The same from the last of them to the first.
+// Apart from `forwards`: one function of any iterator has a longer contract than these two chains.
 fn backwards(keys: &[[u8; 8]], halves: Halves) -> Halves
     ensures { result ≡ fold (λ h k. round k h) halves (reverse keys.now) }
 {

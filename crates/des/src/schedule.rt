@@ -21,7 +21,7 @@ pub fn key_schedule(key: &[u8; 8], schedule: &mut [u8])
     let chosen = permuted_choice_1(u64::from_be_bytes(*key));
     let mut c = (chosen >> 28) as u32;
     let mut d = (chosen & 0x0fff_ffff) as u32;
-    // Not over chunks_exact_mut: std says nothing of what a slice holds after it, so `n` says where a round key goes.
+    // Not over chunks_exact_mut: std says nothing of what the slice holds afterwards.
     for (n, by) in LEFT_SHIFTS.iter().enumerate() {
         c = rotate(c, *by);
         d = rotate(d, *by);
