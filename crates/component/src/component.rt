@@ -1,3 +1,5 @@
+ghost use Rattle.std.specs.Prelude.{◌≡◌};
+
 use word::Service;
 
 /// A PID with the service that it is joined to.
@@ -9,6 +11,8 @@ pub struct Component {
 
 // `ArrayVec` fills its unused places with it.
 impl Default for Component {
+    ghost is_default = { λ c. (c.pid ≡ 0) × (c.service.number ≡ 0) };
+
     fn default() -> Component {
         Component {
             pid: 0,
