@@ -1,6 +1,6 @@
 -- What the shelves above another shelf mean.
-use Rattle.std.specs.Prelude.{ℕ, max, slice_index_or}
-use Rattle.std.proofs.Common.{lit≤}
+use Rattle.std.specs.Prelude.{ℕ, ◌≤◌, max, slice_index_or}
+use Rattle.std.proofs.Common.{lit≤, arith}
 use Rattle.word.specs.Identifiers.{unwrapped}
 use Rattle.shelf.specs.declared.pacing.Pacing.{Pacing}
 use Rattle.shelf.specs.declared.pacing.Pace.{Pace}
@@ -32,6 +32,10 @@ pacing_meaning m s = record {
   held = m.held s.below;
   next = λ k. max (pace_at s k).next (m.next s.below k);
 }
+
+-- its next is no later than 300 seconds after the last moment, if that is so below
+pub pacing_low : {S : Type 0} (s : Pacing S) (below : ℕ → ℕ) → ((k : ℕ) → below k ≤ 4000000300) → (k : ℕ) → max (pace_at s k).next (below k) ≤ 4000000300
+pacing_low s below low k = omega (arith, (slice_index_or s.paces k unpaced).low, low k)
 
 -- an unwrapping shelf reads an entry as the shelf below reads what the entry unwraps to, and holds and takes next what that does
 abbrev pub unwrapping_meaning : {S : Type 0} → Ghosts S → Unwrapping S → ShelfMeaning

@@ -1,19 +1,11 @@
 // Whether a shelf is one to start with.
-ghost use Rattle.std.specs.Prelude.{◌≡◌, ◌<◌, true, is_ok};
+ghost use Rattle.std.specs.Prelude.{◌≡◌, true, is_ok};
 ghost use Rattle.shelf.specs.Examined.{any_below, holds_at, loaded_at, examined, Fresh};
 ghost use Rattle.shelf.specs.Shelves.{meaning_of};
 
 use crate::faults::ShelfFault;
 use crate::shelf::Shelf;
 use word::{Parity, Service};
-
-/// The service of a number below 32.
-fn service_of(number: u8) -> Service
-    requires { number < 32 }
-    ensures { result.number ≡ number }
-{
-    Service::new(number).unwrap()
-}
 
 /// Whether the service holds a word.
 fn holds_at<S: Shelf>(shelf: &S, service: Service) -> bool
@@ -33,24 +25,16 @@ fn loaded_at<S: Shelf>(shelf: &S, service: Service) -> bool
 fn holds_word<S: Shelf>(shelf: &S) -> bool
     ensures { result ≡ any_below 32 (holds_at (meaning_of S.Shelf shelf.now)) }
 {
-    for number in 0..32 {
-        if holds_at(shelf, service_of(number)) {
-            return true;
-        }
-    }
-    false
+    let services = Service::all();
+    services.iter().any(|service| holds_at(shelf, *service))
 }
 
 /// Whether any service has a next other than 0.
 fn loaded<S: Shelf>(shelf: &S) -> bool
     ensures { result ≡ any_below 32 (loaded_at (meaning_of S.Shelf shelf.now)) }
 {
-    for number in 0..32 {
-        if loaded_at(shelf, service_of(number)) {
-            return true;
-        }
-    }
-    false
+    let services = Service::all();
+    services.iter().any(|service| loaded_at(shelf, *service))
 }
 
 /// Refuses a shelf that holds a word for any service, and then one on which any service has a next other than 0.

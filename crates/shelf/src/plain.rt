@@ -9,16 +9,11 @@ use crate::shelf::Shelf;
 use word::{Moment, Parity, Service, Word};
 
 /// The two words of a service.
-#[derive(Clone, Copy)]
+#[derive(Clone, Copy, Default)]
 struct Row {
     even: Option<Word>,
     odd: Option<Word>,
 }
-
-const EMPTY: Row = Row {
-    even: None,
-    odd: None,
-};
 
 /// One row for each of the 32 services.
 #[derive(Drop)]
@@ -31,7 +26,9 @@ impl PlainShelf {
     pub fn new() -> PlainShelf
         ensures { (k : ℕ) (q : Parity) → (plain_meaning result).held k q ≡ None }
     {
-        PlainShelf { rows: [EMPTY; 32] }
+        PlainShelf {
+            rows: [Row::default(); 32],
+        }
     }
 }
 
@@ -57,6 +54,7 @@ impl Shelf for PlainShelf {
     ) -> Result<(), ShelfFault> {
         let word = Some(Word::from_bytes(entry));
         let row = &mut self.rows[usize::from(service.number())];
+        // A match of its own: a method that lends a side would need a clause on what is written through it.
         match parity {
             Parity::Even => row.even = word,
             Parity::Odd => row.odd = word,
@@ -77,6 +75,6 @@ impl Shelf for PlainShelf {
     }
 
     fn wipe(&mut self, service: Service) {
-        self.rows[usize::from(service.number())] = EMPTY;
+        self.rows[usize::from(service.number())] = Row::default();
     }
 }

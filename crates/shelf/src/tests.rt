@@ -29,10 +29,7 @@ fn put_at<S: Shelf>(shelf: &mut S, seconds: u32) -> Result<Result<(), ShelfFault
 
 /// The bytes that service 3 holds.
 fn held<S: Shelf>(shelf: &S, parity: Parity) -> Option<[u8; 16]> {
-    match shelf.word(service_3(), parity) {
-        Some(word) => Some(word.to_bytes()),
-        None => None,
-    }
+    shelf.word(service_3(), parity).map(|word| word.to_bytes())
 }
 
 fn too_soon(next: u64) -> Result<(), ShelfFault> {

@@ -1,7 +1,6 @@
 // A shelf above any other that takes encrypted session words (BISS2 mode E).
 ghost use Rattle.std.specs.Prelude.{◌≡◌};
 ghost use Rattle.shelf.specs.Shelves.{unwrapping_meaning};
-ghost use Rattle.std.proofs.Common.{rules};
 
 use crate::faults::ShelfFault;
 use crate::shelf::Shelf;
@@ -33,7 +32,7 @@ impl<S: Shelf> Shelf for Unwrapping<S> {
 
     ghost next_after = { λ s. S.Shelf.next_after s.below };
 
-    ghost low = { Prim.search rules };
+    ghost low = { λ s. S.Shelf.low s.below };
 
     ghost present = { λ s. S.Shelf.present s.below };
 

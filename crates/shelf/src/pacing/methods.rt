@@ -4,13 +4,21 @@ ghost use Rattle.shelf.specs.Meaning.{Puts, Wipes};
 ghost use Rattle.shelf.specs.Onward.{after_put, paced_onward, paced_present};
 ghost use Rattle.shelf.specs.Paces.{paced, rested};
 ghost use Rattle.shelf.specs.PacingRule.{PacingRule, PacingExamples};
-ghost use Rattle.shelf.specs.Shelves.{meaning_of, row_of, pace_at, pacing_meaning};
-ghost use Rattle.std.proofs.Common.{rules, arith};
+ghost use Rattle.shelf.specs.Shelves.{meaning_of, row_of, pace_at, pacing_meaning, pacing_low};
 
 use crate::faults::ShelfFault;
 use crate::pacing::{Pace, Pacing};
 use crate::shelf::Shelf;
 use word::{Moment, Parity, Service, Word};
+
+/// The seconds of a span.
+const SPAN: u32 = 300;
+
+/// The words that a service takes in a span at most.
+const WORDS: u8 = 10;
+
+/// The seconds from one word of a service to the next.
+const GAP: u64 = 10;
 
 impl Pace {
     /// The pace after a word was taken at that moment.
@@ -19,14 +27,14 @@ impl Pace {
         ensures { row_of result ≡ paced (row_of self) moment.seconds }
     {
         let seconds = moment.seconds();
-        let span = seconds / 300;
+        let span = seconds / SPAN;
         let taken = if span == self.span { self.taken + 1 } else { 1 };
-        let full_until = if taken == 10 {
-            (u64::from(span) + 1) * 300
+        let full_until = if taken == WORDS {
+            (u64::from(span) + 1) * u64::from(SPAN)
         } else {
             0
         };
-        let next = (u64::from(seconds) + 10).max(full_until);
+        let next = (u64::from(seconds) + GAP).max(full_until);
         Pace { next, span, taken }
     }
 }
@@ -59,7 +67,7 @@ impl<S: Shelf> Shelf for Pacing<S> {
 
     ghost next_after = { λ s. paced_onward (pace_at s) (S.Shelf.next_after s.below) };
 
-    ghost low = { first_of (Prim.search rules, Prim.grind (arith, Self.row.coded.inj)) };
+    ghost low = { λ s. pacing_low s (S.Shelf.next s.below) (S.Shelf.low s.below) };
 
     ghost present = { λ s. paced_present (pace_at s) (S.Shelf.next_after s.below) (S.Shelf.next s.below) (S.Shelf.present s.below) };
 

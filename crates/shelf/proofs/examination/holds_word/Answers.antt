@@ -1,15 +1,14 @@
-use Rattle.std.proofs.Common.{sym}
+use Rattle.std.proofs.Common.{rules, ◌∙◌}
+use borrow.Author.Tests.{tests}
+use Rattle.std.proofs.lemmas.Iterator.{YieldsList-from_slice}
+use Rattle.std.proofs.lemmas.Iterator.Search.{any_from_yields_List}
 use Rattle.shelf.specs.Examined.{holds_at}
 use Rattle.shelf.specs.Shelves.{meaning_of}
-use Rattle.shelf.proofs.Services.{any_none, any_more, any_one}
+use Rattle.shelf.proofs.Services.{any_service}
 use Rattle.shelf.proofs.examination.holds_word.Goals as goal
 
-pub loop-number-init : goal.loop-number-init
-loop-number-init g c = any_none (holds_at (meaning_of g.S.Shelf c.args.shelf.now))
-
-pub returns-then-holds_at : goal.returns-then-holds_at
-returns-then-holds_at g c =
-    sym (any_one (holds_at (meaning_of g.S.Shelf c.args.shelf.now)) 32 c.loop-number.number c.loop-number-test.true (cc))
-
-pub loop-number-preserved : goal.loop-number-preserved
-loop-number-preserved g c = any_more (holds_at (meaning_of g.S.Shelf c.args.shelf.now)) c.loop-number.number c.loop-number.invariant (cc)
+pub returns : goal.returns
+returns g c =
+    let test = holds_at (meaning_of g.S.Shelf c.args.shelf.now) in
+    any_from_yields_List (λ s. test s.number) _ _ _ c.any.ensures.ran (YieldsList-from_slice c.all-services.result cc) (λ x b q k. search (rules, tests))
+    ∙ any_service test c.all-services.result c.all-services.ensures.count c.all-services.ensures.order

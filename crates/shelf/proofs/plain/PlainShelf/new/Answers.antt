@@ -1,4 +1,4 @@
-use Rattle.std.proofs.Common.{◌≡◌, None, refl, ◌∙◌}
+use Rattle.std.proofs.Common.{◌≡◌, None, refl, sym, ◌∙◌}
 use Rattle.word.specs.declared.parity.Parity.{Parity}
 use Rattle.word.specs.declared.parity.Parity.TheVariants.{Even, Odd}
 use Rattle.shelf.specs.declared.plain.Row.{Row}
@@ -6,9 +6,11 @@ use Rattle.shelf.specs.Rows.{empty, side}
 use Rattle.shelf.proofs.Tables.{at_replicate}
 use Rattle.shelf.proofs.plain.PlainShelf.new.Goals as goal
 
-nothing : (q : Parity) → side empty q ≡ None
-nothing Even = refl
-nothing Odd = refl
+nothing : (r : Row) (q : Parity) → (r.even ≡ None) × (r.odd ≡ None) → side r q ≡ None
+nothing r Even h = h.0
+nothing r Odd h = h.1
 
 pub returns : goal.returns
-returns c = λ k q. at_replicate (λ (r : Row). side r q) 32 k empty empty refl ∙ nothing q
+returns c = λ k q.
+    let none = nothing empty q (refl, refl) in
+    at_replicate (λ (r : Row). side r q) 32 k _ empty (nothing _ q c.default.ensures ∙ sym none) ∙ none
