@@ -1,5 +1,5 @@
 -- A log stays sound over a line that goes with it.
-use Rattle.std.proofs.Common.{◌≡◌, Bool, true, false, cond, List, [], ◌∷◌, ◌++◌, is_some, is_ok, is_err, Some, None, Ok, Err, Option, Result, sym, refl, ap, ◌∙◌, subst}
+use Rattle.std.proofs.Common.{◌≡◌, Bool, true, false, cond, List, [], ◌∷◌, ◌++◌, is_some, Some, None, Option, sym, refl, ap, subst}
 use Rattle.std.proofs.ByRecursion.{All-push, All-weaker}
 use Rattle.std.proofs.lemmas.Bool.{true≢false, false≢true}
 use Rattle.std.specs.List.{AllByRecursion}
@@ -38,17 +38,3 @@ pub sound_pushed : (last : Option Moment) (before : Option Kind) (ls after : Lis
     → (last ≡ None → AllByRecursion (λ m. is_for x.service.number x.parity m ≡ false) ls) → Sound last (Some x.kind) after
 sound_pushed last before ls after x true e s w c h = subst (Sound last (Some x.kind)) (sym e) (sound_push last ls x (sound_kind last before x.kind ls s w) c h)
 sound_pushed last before ls after x false e s w c h = subst (Sound last (Some x.kind)) (sym e) (sound_kind last before x.kind ls s w)
-
-append_none : (ls : List LogLine) → ls ++ [] ≡ ls
-append_none [] = refl
-append_none (l ∷ ls) = ap (λ (t : List LogLine). l ∷ t) (append_none ls)
-
--- a line that does not count adds nothing
-pub kept_none : (counts : Bool) (ls : List LogLine) (x : LogLine) → counts ≡ false → ls ≡ ls ++ cond counts (x ∷ []) []
-kept_none counts ls x e = sym (ap (λ (b : Bool). ls ++ cond b (x ∷ []) []) e ∙ append_none ls)
-
--- a line that counts, and that a push took
-pub kept_one : {E : Type 0} (r : Result (Unit {0}) E) (counts : Bool) (ls after : List LogLine) (x : LogLine) → after ≡ cond (is_ok r) (ls ++ x ∷ []) ls → is_err r ≡ false → counts ≡ true
-    → after ≡ ls ++ cond counts (x ∷ []) []
-kept_one (Ok u) counts ls after x e h t = e ∙ sym (ap (λ (b : Bool). ls ++ cond b (x ∷ []) []) t)
-kept_one (Err f) counts ls after x e h t = absurd (true≢false h)

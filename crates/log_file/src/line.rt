@@ -3,14 +3,14 @@ ghost use Rattle.std.specs.Prelude.{◌≡◌, IfOk, MatchResult};
 ghost use Rattle.log_file.specs.Columns.{Spelled};
 ghost use Rattle.log_file.specs.Lines.{is_for};
 
-use crate::columns::{further_pids_of, kind_of, moment_of, parity_of, service_of};
+use crate::columns::{further_pids_of, moment_of, service_of};
 use crate::faults::{Cause, LogFault};
 use entry::enter_word;
 use std::alloc::Global;
 use word::{Moment, Parity, Service};
 
 /// How the words of a log are given: as they are, or encrypted under a receiver's identifier.
-#[derive(Clone, Copy)]
+#[derive(Clone, Copy, Debug, PartialEq, Eq)]
 pub enum Kind {
     Word,
     Encrypted,
@@ -35,12 +35,7 @@ impl LogLine {
     pub(crate) fn is_for(&self, service: Service, parity: Parity) -> bool
         ensures { result ≡ is_for service.number parity self.now }
     {
-        match (self.parity, parity) {
-            (Parity::Even, Parity::Even) | (Parity::Odd, Parity::Odd) => {
-                self.service.number() == service.number()
-            }
-            (Parity::Even, Parity::Odd) | (Parity::Odd, Parity::Even) => false,
-        }
+        self.service == service && self.parity == parity
     }
 }
 
@@ -48,51 +43,17 @@ impl LogLine {
 pub(crate) fn parse(heap: Global, number: usize, text: &str) -> Result<LogLine, LogFault>
     ensures { MatchResult result (λ line. line.number ≡ number) (λ f. f.line ≡ number) }
 {
-    match from_text(heap, number, text) {
-        Ok(line) => Ok(line),
-        Err(cause) => Err(LogFault {
-            line: number,
-            cause,
-        }),
-    }
+    from_text(heap, number, text).map_err(|cause| LogFault {
+        line: number,
+        cause,
+    })
 }
 
 fn from_text(heap: Global, number: usize, text: &str) -> Result<LogLine, Cause>
     ensures { IfOk result (λ line. line.number ≡ number) }
 {
     let columns: Vec<&str> = text.split_ascii_whitespace().collect(heap)?;
-    from_columns(heap, number, columns.as_slice())
-}
-
-fn from_columns(heap: Global, number: usize, columns: &[&str]) -> Result<LogLine, Cause>
-    ensures { IfOk result (λ line. line.number ≡ number) }
-{
-    let [
-        service,
-        pids,
-        parity,
-        kind,
-        first,
-        second,
-        third,
-        fourth,
-        moment,
-    ] = columns
-    else {
-        return Err(Cause::Columns);
-    };
-    let columns = Columns {
-        service,
-        pids,
-        parity,
-        kind,
-        first,
-        second,
-        third,
-        fourth,
-        moment,
-    };
-    columns.line(heap, number)
+    Columns::try_from(columns.as_slice())?.line(heap, number)
 }
 
 // The nine columns of a line, as they stand in the text.
@@ -109,6 +70,37 @@ struct Columns<'a> {
     moment: &'a str,
 }
 
+impl<'a> TryFrom<&[&'a str]> for Columns<'a> {
+    type Error = Cause;
+
+    fn try_from(columns: &[&'a str]) -> Result<Columns<'a>, Cause> {
+        match columns {
+            [
+                service,
+                pids,
+                parity,
+                kind,
+                first,
+                second,
+                third,
+                fourth,
+                moment,
+            ] => Ok(Columns {
+                service,
+                pids,
+                parity,
+                kind,
+                first,
+                second,
+                third,
+                fourth,
+                moment,
+            }),
+            _ => Err(Cause::Columns),
+        }
+    }
+}
+
 impl Columns<'_> {
     // The line that they spell; the first column that is wrong decides.
     fn line(self, heap: Global, number: usize) -> Result<LogLine, Cause>
@@ -119,8 +111,8 @@ impl Columns<'_> {
             number,
             service: service_of(self.service)?,
             pids: further_pids_of(heap, self.pids)?,
-            parity: parity_of(self.parity)?,
-            kind: kind_of(self.kind)?,
+            parity: self.parity.parse()?,
+            kind: self.kind.parse()?,
             entry: enter_word(self.first, self.second, self.third, self.fourth)?.to_bytes(),
             moment: moment_of(self.moment)?,
         })

@@ -7,6 +7,7 @@ use crate::faults::{Cause, LogFault};
 use crate::line;
 use crate::line::{Kind, LogLine};
 use std::alloc::Global;
+use thiserror::Error;
 use word::{Moment, Parity, Service};
 
 /// The lines that count, in their order, and how their words are given.
@@ -29,20 +30,22 @@ impl Log {
             (Kind::Word, true) => Cause::IdleIdentifier,
             (Kind::Word, false) | (Kind::Encrypted, true) => return None,
         };
-        let line = self.lines.as_slice().first()?.number;
+        let line = self.lines.first()?.number;
         Some(LogFault { line, cause })
     }
 }
 
 /// Why a text is no log.
-#[derive(Clone, Copy)]
+#[derive(Clone, Copy, Debug, Error)]
 pub enum BadLog {
-    Line(LogFault),
-    /// No line is left to load.
+    #[error(transparent)]
+    Line(#[from] LogFault),
+    #[error("the log has no line to load")]
     NoLine,
 }
 
 // A log that is being read.
+// `Sound` stands in the clauses of each method: a ghost field would need a proof that its recursive facts have one proof each.
 #[derive(Drop)]
 struct Reading {
     at: Option<Moment>,
@@ -58,62 +61,57 @@ impl Reading {
         ensures same { self.new.at ≡ self.old.at }
         ensures fault { IfErr result (λ f. f.line ≡ line.number) }
     {
-        match self.objection(&line) {
-            Some(cause) => Err(LogFault {
-                line: line.number,
-                cause,
-            }),
-            None => self.add(line),
-        }
+        let number = line.number;
+        self.admit(line).map_err(|cause| LogFault {
+            line: number,
+            cause,
+        })
+    }
+
+    fn admit(&mut self, line: LogLine) -> Result<(), Cause>
+        requires { Sound self.old.at self.old.kind self.old.lines.items }
+        ensures sound { Sound self.old.at self.new.kind self.new.lines.items }
+        ensures same { self.new.at ≡ self.old.at }
+    {
+        self.test(&line)?;
+        self.add(line)
     }
 
     // Keeps a line that goes with those before it, if its moment counts.
-    fn add(&mut self, line: LogLine) -> Result<(), LogFault>
+    fn add(&mut self, line: LogLine) -> Result<(), Cause>
         requires sound { Sound self.old.at self.old.kind self.old.lines.items }
         requires kind { goes_with self.old.kind line.kind ≡ true }
         requires apart { self.old.at ≡ None → AllByRecursion (λ m. is_for line.service.number line.parity m ≡ false) self.old.lines.items }
         ensures kept { OnOk result (self.new.lines.items ≡ self.old.lines.items ++ (if counted self.old.at line.moment then line ∷ [] else [])) }
         ensures sound { Sound self.old.at self.new.kind self.new.lines.items }
         ensures same { self.new.at ≡ self.old.at }
-        ensures fault { IfErr result (λ f. f.line ≡ line.number) }
     {
         self.kind = Some(line.kind);
         if !counts(self.at, line.moment) {
             return Ok(());
         }
-        let number = line.number;
-        if self.lines.push(line).is_err() {
-            return Err(LogFault {
-                line: number,
-                cause: Cause::NoMemory,
-            });
-        }
+        self.lines.push(line)?;
         Ok(())
     }
 
-    // What keeps the line from going with those before it.
-    fn objection(&self, line: &LogLine) -> Option<Cause>
-        ensures kind { result ≡ None → goes_with self.now.kind line.now.kind ≡ true }
-        ensures apart { result ≡ None → self.now.at ≡ None → AllByRecursion (λ m. is_for line.now.service.number line.now.parity m ≡ false) self.now.lines.items }
+    // Refuses a line that does not go with those before it.
+    fn test(&self, line: &LogLine) -> Result<(), Cause>
+        ensures kind { OnOk result (goes_with self.now.kind line.now.kind ≡ true) }
+        ensures apart { OnOk result (self.now.at ≡ None → AllByRecursion (λ m. is_for line.now.service.number line.now.parity m ≡ false) self.now.lines.items) }
     {
         if !goes_with(self.kind, line.kind) {
-            return Some(Cause::Mixed);
+            return Err(Cause::Mixed);
         }
         if self.at.is_none() && self.has(line.service, line.parity) {
-            return Some(Cause::Repeated);
+            return Err(Cause::Repeated);
         }
-        None
+        Ok(())
     }
 
     fn has(&self, service: Service, parity: Parity) -> bool
         ensures { result ≡ false → AllByRecursion (λ m. is_for service.number parity m ≡ false) self.now.lines.items }
     {
-        for line in self.lines.as_slice() {
-            if line.is_for(service, parity) {
-                return true;
-            }
-        }
-        false
+        self.lines.iter().any(|line| line.is_for(service, parity))
     }
 }
 
@@ -121,21 +119,14 @@ impl Reading {
 fn goes_with(before: Option<Kind>, kind: Kind) -> bool
     ensures { result ≡ goes_with before kind }
 {
-    match (before, kind) {
-        (None, _) | (Some(Kind::Word), Kind::Word) | (Some(Kind::Encrypted), Kind::Encrypted) =>
-            true,
-        (Some(Kind::Word), Kind::Encrypted) | (Some(Kind::Encrypted), Kind::Word) => false,
-    }
+    before.is_none_or(|other| other == kind)
 }
 
 // Whether a line of that moment counts: all do, or those at a moment or before it.
 fn counts(at: Option<Moment>, moment: Moment) -> bool
     ensures { result ≡ counted at moment }
 {
-    match at {
-        None => true,
-        Some(last) => moment.seconds() <= last.seconds(),
-    }
+    at.is_none_or(|last| moment <= last)
 }
 
 // A line that says nothing.
@@ -168,9 +159,7 @@ pub fn read_log(heap: Global, text: &str, at: Option<Moment>) -> Result<Log, Bad
         kind: None,
         lines: Vec::new(heap),
     };
-    if let Err(fault) = read_lines(heap, text, &mut reading) {
-        return Err(BadLog::Line(fault));
-    }
+    read_lines(heap, text, &mut reading)?;
     let Reading { at: _, kind, lines } = reading;
     match kind {
         Some(kind) if !lines.is_empty() => Ok(Log { kind, lines }),

@@ -172,7 +172,7 @@ fn parity_of(text: &str) -> Result<Parity, BadCommand> {
 fn given_pids(heap: Global, list: &str) -> Result<Vec<u16>, BadCommand> {
     match pids_of(heap, list) {
         Ok(pids) => Ok(pids),
-        Err(Cause::NoMemory) => Err(BadCommand::NoMemory),
+        Err(Cause::NoMemory(_)) => Err(BadCommand::NoMemory),
         Err(_) => Err(BadCommand::Usage(Mistake::Pid)),
     }
 }

@@ -11,7 +11,7 @@ use entry::{EntryFault, enter_identifier};
 use law::every_run_is_lawful;
 use log_file::{BadLog, Cause, Log, LogFault, LogLine, read_log};
 use shelf::{PlainShelf, Shelf, Unwrapping};
-use std::alloc::Global;
+use std::alloc::{AllocError, Global};
 use std::collections::BTreeMap;
 use std::fs;
 use word::Identifier;
@@ -211,7 +211,7 @@ fn open_once<C: Cipher, T: TailRule, S: Shelf>(
     match services.open(service) {
         Ok(()) | Err(ServicesFault::Engine(EngineFault::AlreadyOpen)) => Ok(()),
         Err(ServicesFault::Engine(fault)) => Err(Cause::Engine(fault)),
-        Err(ServicesFault::NoMemory) => Err(Cause::NoMemory),
+        Err(ServicesFault::NoMemory) => Err(Cause::NoMemory(AllocError)),
     }
 }
 
@@ -230,6 +230,6 @@ fn join_once<C: Cipher, T: TailRule, S: Shelf>(
     }
     match joined.insert(pid, service) {
         Ok(_) => Ok(()),
-        Err(_) => Err(Cause::NoMemory),
+        Err(_) => Err(Cause::NoMemory(AllocError)),
     }
 }
