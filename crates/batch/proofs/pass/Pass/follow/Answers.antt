@@ -1,4 +1,4 @@
-use Rattle.std.proofs.Common.{◌≡◌, Some, Ok, ◌∙◌, arith, rules}
+use Rattle.std.proofs.Common.{◌≡◌, Some, Ok, arith, rules}
 use Rattle.batch.specs.Plan.{Plan, keys_of, plan_for}
 use Rattle.batch.proofs.Plans.{change_inside}
 use Rattle.batch.proofs.pass.Pass.follow.Goals as goal
@@ -10,4 +10,4 @@ change-requires g c =
     let answer = c.in-Ok-Some.ensures in
     let planned : ◌≡◌ {A = Plan} (Ok (Some c.in-Ok-Some.how)) (plan_for c.args.self.now.direction keys c.header_of.result) = cc in
     let inside = change_inside c.args.self.now.direction keys c.header_of.result c.in-Ok-Some.how planned in
-    record { size = c.requires.size; low = inside.0; high = omega arith; prepared = elim c.if-ne.branch [ then-ne w ↦ w.area-is ∙ w.prepare.ensures | else-ne w ↦ search rules ] }
+    record { size = c.requires.size; low = inside.0; high = omega arith; prepared = elim c.if-ne.branch [ then-ne w ↦ search rules | else-ne w ↦ search rules ] }
