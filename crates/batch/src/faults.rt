@@ -1,5 +1,5 @@
 ghost use Rattle.std.specs.Prelude.{◌≡◌};
-ghost use Rattle.batch.specs.Faults.{batch_refusal, engine_refusal};
+ghost use Rattle.batch.specs.Faults.{batch_refusal};
 ghost use Rattle.batch.specs.declared.faults.BatchFault.TheVariants.{Packet};
 
 use fault::{Layer, Refusal};
@@ -18,29 +18,22 @@ pub enum BatchFault {
     NoWord { packet: usize },
 }
 
-impl BatchFault {
-    /// The fault as a number, a layer and two places.
-    pub fn refusal(&self) -> Refusal
-        ensures { result ≡ batch_refusal self.now }
-    {
-        match self {
-            BatchFault::KeyArea { .. } => engine_refusal(12, 0, 0),
-            BatchFault::BatchLength { .. } => engine_refusal(13, 0, 0),
-            BatchFault::Packet(fault) => fault.refusal(),
-            BatchFault::NoWord { packet } => engine_refusal(11, *packet as u64, 3),
-        }
-    }
-}
+/// The fault as a number, a layer and two places.
+impl From<BatchFault> for Refusal {
+    ghost from_gives = { λ f r. r ≡ batch_refusal f };
 
-// A refusal of the engine's own layer.
-fn engine_refusal(number: u8, first: u64, second: u64) -> Refusal
-    ensures { result ≡ engine_refusal number first second }
-{
-    Refusal {
-        number,
-        layer: Layer::Engine,
-        first,
-        second,
+    fn from(fault: BatchFault) -> Refusal {
+        match fault {
+            BatchFault::KeyArea { .. } => Refusal::without_places(12, Layer::Engine),
+            BatchFault::BatchLength { .. } => Refusal::without_places(13, Layer::Engine),
+            BatchFault::Packet(fault) => fault.into(),
+            BatchFault::NoWord { packet } => Refusal {
+                number: 11,
+                layer: Layer::Engine,
+                first: packet as u64,
+                second: 3,
+            },
+        }
     }
 }
 

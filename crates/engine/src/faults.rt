@@ -1,5 +1,4 @@
 ghost use Rattle.std.specs.Prelude.{◌≡◌};
-ghost use Rattle.batch.specs.Faults.{engine_refusal};
 ghost use Rattle.engine.specs.Faults.{refusal_of, join_fault};
 ghost use Rattle.engine.specs.declared.faults.EngineFault.TheVariants.{Shelf, Batch};
 
@@ -37,37 +36,26 @@ pub enum EngineFault {
     NoWord,
 }
 
-impl EngineFault {
-    /// The fault as a number, a layer and two places.
-    pub fn refusal(&self) -> Refusal
-        ensures { result ≡ refusal_of self.now }
-    {
-        match self {
-            EngineFault::Shelf(fault) => fault.refusal(),
-            EngineFault::Batch(fault) => fault.refusal(),
-            EngineFault::NoService => own(1),
-            EngineFault::AlreadyOpen => own(2),
-            EngineFault::BadGrant => own(3),
-            EngineFault::NotOpen => own(4),
-            EngineFault::PidRange => own(5),
-            EngineFault::AlreadyJoined => own(6),
-            EngineFault::TableFull => own(7),
-            EngineFault::NotJoined => own(8),
-            EngineFault::BadMoment => own(9),
-            EngineFault::NoWord => own(11),
-        }
-    }
-}
+/// The fault as a number, a layer and two places.
+impl From<EngineFault> for Refusal {
+    ghost from_gives = { λ f r. r ≡ refusal_of f };
 
-// A refusal of the engine's own layer, with no places.
-fn own(number: u8) -> Refusal
-    ensures { result ≡ engine_refusal number 0 0 }
-{
-    Refusal {
-        number,
-        layer: Layer::Engine,
-        first: 0,
-        second: 0,
+    fn from(fault: EngineFault) -> Refusal {
+        let number = match fault {
+            EngineFault::Shelf(fault) => return fault.into(),
+            EngineFault::Batch(fault) => return fault.into(),
+            EngineFault::NoService => 1,
+            EngineFault::AlreadyOpen => 2,
+            EngineFault::BadGrant => 3,
+            EngineFault::NotOpen => 4,
+            EngineFault::PidRange => 5,
+            EngineFault::AlreadyJoined => 6,
+            EngineFault::TableFull => 7,
+            EngineFault::NotJoined => 8,
+            EngineFault::BadMoment => 9,
+            EngineFault::NoWord => 11,
+        };
+        Refusal::without_places(number, Layer::Engine)
     }
 }
 

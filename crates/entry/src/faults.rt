@@ -1,7 +1,8 @@
-ghost use Rattle.std.specs.Prelude.{◌≡◌};
-ghost use Rattle.entry.specs.Refusals.{refusal_of};
+ghost use Rattle.std.specs.Prelude.{◌≡◌, Some};
+ghost use Rattle.entry.specs.Refusals.{refusal_of, fault_text};
 
 use fault::{Layer, Refusal};
+use std::fmt;
 
 /// Why a group is refused. Groups and positions count from 0; lengths and positions are in bytes of the text.
 #[derive(Clone, Copy, Debug, PartialEq, Eq)]
@@ -12,24 +13,35 @@ pub enum EntryFault {
     Digit { group: u8, position: usize },
 }
 
-impl EntryFault {
-    /// The fault as a number, a layer and two places.
-    pub fn refusal(&self) -> Refusal
-        ensures { result ≡ refusal_of self.now }
-    {
-        match *self {
-            EntryFault::Length { group, length } => Refusal {
-                number: 18,
-                layer: Layer::Entry,
-                first: u64::from(group),
-                second: length as u64,
-            },
-            EntryFault::Digit { group, position } => Refusal {
-                number: 19,
-                layer: Layer::Entry,
-                first: u64::from(group),
-                second: position as u64,
-            },
+/// The fault as a number, a layer and two places.
+impl From<EntryFault> for Refusal {
+    ghost from_gives = { λ f r. r ≡ refusal_of f };
+
+    fn from(fault: EntryFault) -> Refusal {
+        let (number, group, place) = match fault {
+            EntryFault::Length { group, length } => (18, group, length),
+            EntryFault::Digit { group, position } => (19, group, position),
+        };
+        Refusal {
+            number,
+            layer: Layer::Entry,
+            first: u64::from(group),
+            second: place as u64,
+        }
+    }
+}
+
+/// Where the entry is at fault, as `group 3, length 7` or `group 2, position 5`.
+impl fmt::Display for EntryFault {
+    ghost output = { λ f. Some (fault_text f) };
+
+    fn fmt<W: fmt::Write>(&self, f: &mut fmt::Formatter<W>) -> fmt::Result {
+        match self {
+            EntryFault::Length { group, length } => write!(f, "group {group}, length {length}"),
+            EntryFault::Digit { group, position } => write!(
+                f,
+                "group {group}, position {position}"
+            ),
         }
     }
 }

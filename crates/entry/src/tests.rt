@@ -137,7 +137,7 @@ fn faults_say_their_number_and_places(rt: HostRuntime) -> Result<(), Fail> {
         return Err(Fail::new("the short group"));
     };
     assert_eq!(rt;
-        fault.refusal(),
+        Refusal::from(fault),
         Refusal {
             number: 18,
             layer: Layer::Entry,
@@ -146,11 +146,10 @@ fn faults_say_their_number_and_places(rt: HostRuntime) -> Result<(), Fail> {
         }
     );
     assert_eq!(rt;
-        EntryFault::Digit {
+        Refusal::from(EntryFault::Digit {
             group: 2,
             position: 5,
-        }
-        .refusal(),
+        }),
         Refusal {
             number: 19,
             layer: Layer::Entry,

@@ -1,6 +1,7 @@
 // Why a log is refused.
 use engine::EngineFault;
 use entry::EntryFault;
+use fault::Refusal;
 use std::alloc::AllocError;
 use std::fmt;
 use thiserror::Error;
@@ -20,7 +21,7 @@ pub enum Cause {
     Parity(#[from] ParseParityError),
     #[error("the kind is word or encrypted")]
     Kind,
-    #[error("refused: {}, {}", .0.refusal(), GroupPlace(*.0))]
+    #[error("refused: {}, {}", Refusal::from(*.0), GroupPlace(*.0))]
     Group(#[from] EntryFault),
     #[error("the moment is 0 to 4,000,000,000 seconds, decimal")]
     Moment,
@@ -36,7 +37,7 @@ pub enum Cause {
     /// The words are not encrypted, and an identifier is given.
     #[error("the words are not encrypted: --identifier has no use")]
     IdleIdentifier,
-    #[error("refused: {}", .0.refusal())]
+    #[error("refused: {}", Refusal::from(*.0))]
     Engine(#[from] EngineFault),
     #[error("there is no memory")]
     NoMemory(#[from(alloc)] AllocError),

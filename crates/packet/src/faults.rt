@@ -25,12 +25,12 @@ pub struct PacketFault {
     pub cause: HeaderFault,
 }
 
-impl PacketFault {
-    /// The fault as a number, a layer and the places packet and byte.
-    pub fn refusal(&self) -> Refusal
-        ensures { result ≡ packet_refusal self.now }
-    {
-        let (number, byte) = match self.cause {
+/// The fault as a number, a layer and the places packet and byte.
+impl From<PacketFault> for Refusal {
+    ghost from_gives = { λ f r. r ≡ packet_refusal f };
+
+    fn from(fault: PacketFault) -> Refusal {
+        let (number, byte) = match fault.cause {
             HeaderFault::Sync => (14, 0),
             HeaderFault::AdaptationControl => (15, 3),
             HeaderFault::AdaptationLength { .. } => (15, 4),
@@ -40,7 +40,7 @@ impl PacketFault {
         Refusal {
             number,
             layer: Layer::Packet,
-            first: self.packet as u64,
+            first: fault.packet as u64,
             second: byte,
         }
     }

@@ -146,7 +146,7 @@ fn identifier_in(rt: &HostRuntime, path: &str) -> anyhow::Result<Identifier> {
     match entered(groups.as_slice()) {
         Some(Ok(identifier)) => Ok(identifier),
         Some(Err(fault)) => {
-            report::print_entry_refusal(rt, &fault.refusal())?;
+            report::print_entry_refusal(rt, &fault)?;
             Err(anyhow!("the identifier was refused"))
         }
         None => Err(anyhow!("an identifier is four groups of eight hexadecimal digits")),

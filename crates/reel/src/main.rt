@@ -76,7 +76,7 @@ fn not_understood(rt: &HostRuntime, bad: BadCommand) -> anyhow::Result<()> {
             Err(anyhow!("{text}"))
         }
         BadCommand::Word(fault) => {
-            report::print_entry_refusal(rt, &fault.refusal())?;
+            report::print_entry_refusal(rt, &fault)?;
             Err(anyhow!("the word was refused"))
         }
         BadCommand::NoMemory => Err(anyhow!("there is no memory")),

@@ -3,7 +3,8 @@ use crate::command::{Command, ProfileName, Task};
 use crate::tally::Tally;
 use batch::BatchFault;
 use engine::EngineFault;
-use fault::{Layer, Refusal};
+use entry::EntryFault;
+use fault::Refusal;
 use log_file::LogFault;
 use std::io;
 use std::io::Write;
@@ -39,35 +40,17 @@ fn print_key_usage(rt: &HostRuntime) -> io::Result<()> {
     eprintln!(rt; "  MOMENT   words of the log count up to here, 0 to 4000000000 seconds")
 }
 
-fn layer_name(layer: Layer) -> &'static str {
-    match layer {
-        Layer::Entry => "entry",
-        Layer::Shelf => "shelf",
-        Layer::Packet => "packet",
-        Layer::Engine => "engine",
-        Layer::Program => "program",
-    }
-}
-
 /// A refused word of the command line.
-pub fn print_entry_refusal(rt: &HostRuntime, refusal: &Refusal) -> io::Result<()> {
-    let number = refusal.number;
-    let meaning = refusal.meaning();
-    let group = refusal.first;
-    let place = refusal.second;
-    let what = if number == 18 { "length" } else { "position" };
-    eprintln!(rt; "refused: {number} ({meaning})")?;
-    eprintln!(rt; "at: group {group}, {what} {place}")
+pub fn print_entry_refusal(rt: &HostRuntime, fault: &EntryFault) -> io::Result<()> {
+    eprintln!(rt; "refused: {}", Refusal::from(*fault))?;
+    eprintln!(rt; "at: {fault}")
 }
 
 /// A refused call of the engine; `done` is how many packets came before a refused batch.
 pub fn print_refusal(rt: &HostRuntime, fault: &EngineFault, done: u64) -> io::Result<()> {
-    let refusal = fault.refusal();
-    let number = refusal.number;
-    let layer = layer_name(refusal.layer);
-    let meaning = refusal.meaning();
-    eprintln!(rt; "refused: {number} ({meaning})")?;
-    eprintln!(rt; "layer: {layer}")?;
+    let refusal = Refusal::from(*fault);
+    eprintln!(rt; "refused: {refusal}")?;
+    eprintln!(rt; "layer: {}", refusal.layer)?;
     match fault {
         EngineFault::Batch(BatchFault::BatchLength { length }) => {
             let packet = done.saturating_add((*length / 188) as u64);

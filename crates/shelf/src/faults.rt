@@ -14,12 +14,12 @@ pub enum ShelfFault {
     Loaded,
 }
 
-impl ShelfFault {
-    /// The fault as a number, a layer and two places.
-    pub fn refusal(&self) -> Refusal
-        ensures { result ≡ refusal_of self.now }
-    {
-        let (number, first, second) = match *self {
+/// The fault as a number, a layer and two places.
+impl From<ShelfFault> for Refusal {
+    ghost from_gives = { λ f r. r ≡ refusal_of f };
+
+    fn from(fault: ShelfFault) -> Refusal {
+        let (number, first, second) = match fault {
             ShelfFault::TooSoon { service, next } => (10, u64::from(service), next),
             ShelfFault::HoldsWord => (22, 0, 0),
             ShelfFault::Loaded => (23, 0, 0),

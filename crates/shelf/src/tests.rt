@@ -103,11 +103,10 @@ fn a_plain_shelf_takes_an_entry_as_it_is(rt: HostRuntime) -> Result<(), Fail> {
 #[test]
 fn faults_say_their_number_and_places(rt: HostRuntime) {
     assert_eq!(rt;
-        ShelfFault::TooSoon {
+        Refusal::from(ShelfFault::TooSoon {
             service: 3,
             next: 1010,
-        }
-        .refusal(),
+        }),
         Refusal {
             number: 10,
             layer: Layer::Shelf,
@@ -115,6 +114,6 @@ fn faults_say_their_number_and_places(rt: HostRuntime) {
             second: 1010,
         }
     );
-    assert_eq!(rt; ShelfFault::HoldsWord.refusal().number, 22);
-    assert_eq!(rt; ShelfFault::Loaded.refusal().number, 23);
+    assert_eq!(rt; Refusal::from(ShelfFault::HoldsWord).number, 22);
+    assert_eq!(rt; Refusal::from(ShelfFault::Loaded).number, 23);
 }

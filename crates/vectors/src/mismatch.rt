@@ -1,4 +1,5 @@
 use batch::BatchFault;
+use fault::Refusal;
 use std::fmt;
 
 /// How an answer of the element differs from the expected one.
@@ -17,8 +18,7 @@ impl fmt::Display for Mismatch {
             Mismatch::Byte(place) => write!(f, "byte {place}"),
             Mismatch::Counts(changed, passed) => write!(f, "changed {changed}, passed {passed}"),
             Mismatch::Refused(fault) => {
-                let number = fault.refusal().number;
-                write!(f, "refused with {number}")
+                write!(f, "refused with {}", Refusal::from(fault).number)
             }
         }
     }

@@ -1,5 +1,5 @@
 ghost use Rattle.std.specs.Prelude.{◌≡◌};
-ghost use Rattle.wire.specs.Faults.{refusal_of, program_refusal};
+ghost use Rattle.wire.specs.Faults.{refusal_of};
 ghost use Rattle.wire.specs.declared.faults.ProgramFault.TheVariants.{Engine};
 
 use engine::EngineFault;
@@ -18,29 +18,18 @@ pub enum ProgramFault {
     CutShort,
 }
 
-impl ProgramFault {
-    /// The fault as a number, a layer and two places.
-    pub fn refusal(&self) -> Refusal
-        ensures { result ≡ refusal_of self.now }
-    {
-        match self {
-            ProgramFault::Engine(fault) => fault.refusal(),
-            ProgramFault::UnknownTag => own(24),
-            ProgramFault::BadValue => own(25),
-            ProgramFault::CutShort => own(26),
-        }
-    }
-}
+/// The fault as a number, a layer and two places.
+impl From<ProgramFault> for Refusal {
+    ghost from_gives = { λ f r. r ≡ refusal_of f };
 
-// A refusal of the program's own layer, with no places.
-fn own(number: u8) -> Refusal
-    ensures { result ≡ program_refusal number }
-{
-    Refusal {
-        number,
-        layer: Layer::Program,
-        first: 0,
-        second: 0,
+    fn from(fault: ProgramFault) -> Refusal {
+        let number = match fault {
+            ProgramFault::Engine(fault) => return fault.into(),
+            ProgramFault::UnknownTag => 24,
+            ProgramFault::BadValue => 25,
+            ProgramFault::CutShort => 26,
+        };
+        Refusal::without_places(number, Layer::Program)
     }
 }
 

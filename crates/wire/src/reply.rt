@@ -2,6 +2,7 @@ ghost use Rattle.std.specs.Prelude.{◌≡◌, ◌+◌, ◌/◌, ◌%◌, [], �
 ghost use Rattle.wire.specs.Replies.{number_of, written};
 
 use crate::faults::ProgramFault;
+use fault::Refusal;
 use std::alloc::AllocError;
 
 /// What is answered to a field.
@@ -22,7 +23,7 @@ impl Reply {
     {
         match self.outcome {
             Ok(()) => 0,
-            Err(fault) => fault.refusal().number,
+            Err(fault) => Refusal::from(fault).number,
         }
     }
 
