@@ -12,10 +12,11 @@ use Rattle.component.specs.declared.components.Components.{Components}
 use Rattle.component.specs.declared.faults.ComponentFault.{ComponentFault}
 use Rattle.component.specs.declared.faults.ComponentFault.TheVariants.{OutOfRange, Joined, Full}
 use Rattle.word.specs.declared.service.Service.{Service}
-use Rattle.engine.specs.Calls.{Answer}
+use Rattle.engine.specs.Calls.{Answer, Joins, Leaves, closed}
 use Rattle.engine.specs.Faults.{join_fault}
-use Rattle.engine.specs.Model.{pairs_of}
-use Rattle.engine.specs.declared.faults.EngineFault.TheVariants.{PidRange, AlreadyJoined, TableFull}
+use Rattle.engine.specs.Model.{Model, pairs_of}
+use Rattle.engine.specs.declared.faults.EngineFault.TheVariants.{PidRange, AlreadyJoined, TableFull, NotJoined}
+use Rattle.engine.proofs.Slots.{unless_none}
 
 abbrev pair : Component → ℕ × ℕ
 pair c = (c.pid, c.service.number)
@@ -57,18 +58,31 @@ stays : (f : ℕ → Option ℕ) (k pid : ℕ) (b : Bool) → eqb k pid ≡ b �
 stays f k pid true e h = kept_none (f k) (ap (λ (j : ℕ). is_some (f j)) (eqb-true k pid e) ∙ h)
 stays f k pid false e h = refl
 
--- what a leave does, by whether the PID was joined
-pub record Left (before after : Components) (pid : ℕ) (there : Bool) : Type 0 where
-  pub components : pairs_of after ≡ cond there (filter (λ c. not (eqb c.0 pid)) (pairs_of before)) (pairs_of before)
-  pub joined_to : (k : ℕ) → joined after k ≡ cond (there && eqb k pid) None (joined before k)
+-- an engine with other components
+abbrev pub with_components : Model → Components → Model
+with_components m t = record m { components = pairs_of t; joined = joined t }
 
-pub left : (before after : Components) (pid : ℕ) (there : Bool) → there ≡ is_some (joined before pid) → components_of after ≡ other_pids pid (components_of before)
-    → ((k : ℕ) → joined after k ≡ cond (eqb k pid) None (joined before k)) → Left before after pid there
+-- a leave, by whether the PID was joined
+pub leaves_by : (m : Model) (before after : Components) (pid : ℕ) (there : Bool) → there ≡ is_some (joined before pid) → components_of after ≡ other_pids pid (components_of before)
+    → ((k : ℕ) → joined after k ≡ cond (eqb k pid) None (joined before k)) → Leaves (with_components m before) pid (cond there (Ok tt) (Err NotJoined)) (with_components m after)
 unfolding joined
-left before after pid true e rows to = record { components = without_pid before after pid rows; joined_to = to }
-left before after pid false e rows to = record {
+leaves_by m before after pid true e rows to = record {
+  answer = ap (λ (b : Bool). cond {A = Answer} b (Ok tt) (Err NotJoined)) e;
+  components = without_pid before after pid rows;
+  joined = to;
+  slots = refl;
+  shelf = refl;
+  profile = refl;
+  tag = refl;
+}
+leaves_by m before after pid false e rows to = record {
+  answer = ap (λ (b : Bool). cond {A = Answer} b (Ok tt) (Err NotJoined)) e;
   components = ap (map pair) (rows ∙ others_all (components_of before) pid (sym e));
-  joined_to = λ k. to k ∙ stays (joined before) k pid (eqb k pid) refl (sym e);
+  joined = λ k. to k ∙ stays (joined before) k pid (eqb k pid) refl (sym e);
+  slots = refl;
+  shelf = refl;
+  profile = refl;
+  tag = refl;
 }
 
 -- an answer of the table, as the engine's
@@ -104,25 +118,24 @@ pair_one : (b : Bool) (pid n : ℕ) (s : Service) → s.number ≡ n → map pai
 pair_one true pid n s e = ap (λ (m : ℕ). (pid, m) ∷ []) e
 pair_one false pid n s e = refl
 
--- what a join does once the service is known to be open
-pub record Added (before after : Components) (n pid : ℕ) (r : Answer) : Type 0 where
-  pub answer : r ≡ tested before (length (pairs_of before)) pid
-  pub components : pairs_of after ≡ pairs_of before ++ cond (is_ok r) ((pid, n) ∷ []) []
-  pub joined_to : (k : ℕ) → joined after k ≡ cond (is_ok r && eqb k pid) (Some n) (joined before k)
-
-pub added : (before after : Components) (n pid : ℕ) (s : Service) (a : Result (Unit {0}) ComponentFault) (r : Answer) → s.number ≡ n → r ≡ lifted a → a ≡ add_answer before pid
-    → components_of after ≡ components_of before ++ cond (is_ok a) (record { pid = pid; service = s } ∷ []) []
-    → ((k : ℕ) → joined after k ≡ cond (is_ok a && eqb k pid) (Some s.number) (joined before k)) → Added before after n pid r
-added before after n pid s a r is e answer rows to =
+-- a join of a service that is open
+pub joins_by : (m : Model) (before after : Components) (n pid : ℕ) (s : Service) (a : Result (Unit {0}) ComponentFault) (r : Answer) → s.number ≡ n → closed m.slots n ≡ None → r ≡ lifted a
+    → a ≡ add_answer before pid → components_of after ≡ components_of before ++ cond (is_ok a) (record { pid = pid; service = s } ∷ []) []
+    → ((k : ℕ) → joined after k ≡ cond (is_ok a && eqb k pid) (Some s.number) (joined before k)) → Joins (with_components m before) n pid r (with_components m after)
+joins_by m before after n pid s a r is live e answer rows to =
     let ok : is_ok a ≡ is_ok r = sym (ap is_ok e ∙ lifted_ok a) in
     record {
-      answer = e ∙ ap lifted answer ∙ lifted_answer before pid;
+      answer = e ∙ ap lifted answer ∙ lifted_answer before pid ∙ unless_none (closed m.slots n) _ live;
       components =
           ap (map pair) rows
           ∙ map-append pair (components_of before) (cond (is_ok a) (record { pid = pid; service = s } ∷ []) [])
           ∙ ap (λ (l : List (ℕ × ℕ)). pairs_of before ++ l) (pair_one (is_ok a) pid n s is ∙ ap (λ (b : Bool). cond b ((pid, n) ∷ []) []) ok);
-      joined_to = λ k.
+      joined = λ k.
           to k
           ∙ ap (λ (m : ℕ). cond (is_ok a && eqb k pid) (Some m) (joined before k)) is
           ∙ ap (λ (b : Bool). cond (b && eqb k pid) (Some n) (joined before k)) ok;
+      slots = refl;
+      shelf = refl;
+      profile = refl;
+      tag = refl;
     }

@@ -3,3 +3,4 @@ pub mod Model
 pub mod Calls
 pub mod Onward
 pub mod Runs
+pub mod Wiped

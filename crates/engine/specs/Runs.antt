@@ -35,3 +35,7 @@ Step before (descrambles area batch r area' batch') after = Batches Descramble b
 pub data Run {E : Type 0} (view : E → Model) (given : Given) : List Call → E → Type 0 where
   made : {e : E} → Makes given (view e) → examined given.shelf ≡ Ok tt → Run view given [] e
   more : {calls : List Call} {before after : E} {call : Call} → Run view given calls before → Step (view before) call (view after) → Run view given (call ∷ calls) after
+
+-- a call that led from one engine to another leads on every run of the first
+abbrev pub Extends : {E : Type 0} → (E → Model) → Call → E → E → Type 0
+Extends view call before after = (given : Given) (calls : List Call) → Run view given calls before → Run view given (call ∷ calls) after

@@ -1,8 +1,10 @@
-ghost use Rattle.std.specs.Prelude.{◌≡◌, ℕ, ◌<◌, not, [], if◌then◌else◌, Some, None, filter, MatchResult, ◌==◌, nat_eq, nat_lt};
+ghost use Rattle.std.specs.Prelude.{◌≡◌, ℕ, ◌<◌, not, [], if◌then◌else◌, Some, None, filter, MatchResult, ◌==◌, nat_eq};
 ghost use Rattle.component.specs.Table.{joined as joined_in, without_service};
-ghost use Rattle.word.specs.declared.parity.Parity.{Parity};
+ghost use Rattle.shelf.specs.Meaning.{Wipes};
+ghost use Rattle.shelf.specs.Shelves.{meaning_of};
 ghost use Rattle.engine.specs.Calls.{closed};
 ghost use Rattle.engine.specs.Model.{is_open, parity_in, slots_of, pairs_of};
+ghost use Rattle.engine.specs.Wiped.{WipesBelow};
 ghost use Rattle.engine.specs.declared.desk.Slot.TheVariants.{Shut};
 
 use crate::desk::{Desk, Slot};
@@ -22,10 +24,8 @@ fn numbered(number: u8) -> Service
 
 /// Wipes all 32 services of a shelf.
 pub(crate) fn wipe_all<S: Shelf>(shelf: &mut S)
-    ensures held { (k : ℕ) (q : Parity) → S.Shelf.held shelf.new k q ≡ (if nat_lt k 32 then None else S.Shelf.held shelf.old k q) }
-    ensures next { S.Shelf.next shelf.new ≡ S.Shelf.next shelf.old }
+    ensures wipes { WipesBelow (meaning_of S.Shelf shelf.old) 32 (meaning_of S.Shelf shelf.new) }
     ensures later { S.Shelf.next_after shelf.new ≡ S.Shelf.next_after shelf.old }
-    ensures reads { S.Shelf.reads shelf.new ≡ S.Shelf.reads shelf.old }
 {
     for number in 0..32 {
         shelf.wipe(numbered(number));
@@ -35,10 +35,8 @@ pub(crate) fn wipe_all<S: Shelf>(shelf: &mut S)
 impl<S: Shelf> Desk<S> {
     /// A desk over a shelf that is wiped, with no service open and no component.
     pub(crate) fn new(mut shelf: S) -> Desk<S>
-        ensures held { (k : ℕ) (q : Parity) → S.Shelf.held result.shelf k q ≡ (if nat_lt k 32 then None else S.Shelf.held shelf k q) }
-        ensures next { S.Shelf.next result.shelf ≡ S.Shelf.next shelf }
+        ensures wipes { WipesBelow (meaning_of S.Shelf shelf) 32 (meaning_of S.Shelf result.shelf) }
         ensures later { S.Shelf.next_after result.shelf ≡ S.Shelf.next_after shelf }
-        ensures reads { S.Shelf.reads result.shelf ≡ S.Shelf.reads shelf }
         ensures slots { (k : ℕ) → slots_of result k ≡ Shut }
         ensures components { pairs_of result.components ≡ [] }
         ensures joined { (k : ℕ) → joined_in result.components k ≡ None }
@@ -53,10 +51,8 @@ impl<S: Shelf> Desk<S> {
 
     /// Shuts a service: its words, its components and its parity go.
     pub(crate) fn shut(&mut self, service: Service)
-        ensures held { (k : ℕ) (q : Parity) → S.Shelf.held self.new.shelf k q ≡ (if nat_eq k service.number then None else S.Shelf.held self.old.shelf k q) }
-        ensures next { S.Shelf.next self.new.shelf ≡ S.Shelf.next self.old.shelf }
+        ensures wipes { Wipes (meaning_of S.Shelf self.old.shelf) service.number (meaning_of S.Shelf self.new.shelf) }
         ensures later { S.Shelf.next_after self.new.shelf ≡ S.Shelf.next_after self.old.shelf }
-        ensures reads { S.Shelf.reads self.new.shelf ≡ S.Shelf.reads self.old.shelf }
         ensures slots { (k : ℕ) → slots_of self.new k ≡ (if nat_eq k service.number then Shut else slots_of self.old k) }
         ensures components { pairs_of self.new.components ≡ filter (λ c. not (c.1 == service.number)) (pairs_of self.old.components) }
         ensures joined { (k : ℕ) → joined_in self.new.components k ≡ without_service service.number (joined_in self.old.components k) }
@@ -68,22 +64,23 @@ impl<S: Shelf> Desk<S> {
 }
 
 impl<S> Desk<S> {
+    fn slot(&self, service: Service) -> Slot
+        ensures { result ≡ slots_of self.now service.number }
+    {
+        self.slots[usize::from(service.number())]
+    }
+
     pub(crate) fn is_open(&self, service: Service) -> bool
         ensures { result ≡ is_open (slots_of self.now service.number) }
     {
-        match self.slots[usize::from(service.number())] {
-            Slot::Shut => false,
-            Slot::Live(_) => true,
-        }
+        matches!(self.slot(service), Slot::Live(_))
     }
 
     /// The open service of that number, or why there is none.
     pub(crate) fn open_service(&self, number: u8) -> Result<Service, EngineFault>
         ensures { MatchResult result (λ s. (s.number ≡ number) × (closed (slots_of self.now) number ≡ None)) (λ f. closed (slots_of self.now) number ≡ Some f) }
     {
-        let Some(service) = Service::new(number) else {
-            return Err(EngineFault::NoService);
-        };
+        let service = Service::new(number).ok_or(EngineFault::NoService)?;
         if !self.is_open(service) {
             return Err(EngineFault::NotOpen);
         }
@@ -112,7 +109,7 @@ impl<S: Shelf> Keyring for Desk<S> {
     }
 
     fn picked_parity(&self, service: Service) -> Option<Parity> {
-        match self.slots[usize::from(service.number())] {
+        match self.slot(service) {
             Slot::Shut => None,
             Slot::Live(parity) => parity,
         }

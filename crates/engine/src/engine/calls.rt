@@ -1,13 +1,13 @@
-// The eight calls. Each public one is its worker, and says besides that it extends every run.
+// The eight calls. Each says what it does to an engine, and that it extends every run.
 ghost use Rattle.std.specs.Prelude.{◌≡◌, true, false, ◌&&◌, List, [], ◌∷◌, Ok, MatchOption, ◌==◌};
 ghost use Rattle.batch.specs.declared.plan.Direction.TheVariants.{Scramble, Descramble};
 ghost use Rattle.shelf.specs.Examined.{examined};
 ghost use Rattle.shelf.specs.Onward.{after_put};
 ghost use Rattle.shelf.specs.Shelves.{meaning_of};
 ghost use Rattle.engine.specs.Calls.{Makes, Opens, Closes, Joins, Leaves, Loads, Picks, Batches};
-ghost use Rattle.engine.specs.Model.{Given, is_open, slots_of, model_of, given_of};
+ghost use Rattle.engine.specs.Model.{is_open, slots_of, model_of, given_of};
 ghost use Rattle.engine.specs.Onward.{onward_of};
-ghost use Rattle.engine.specs.Runs.{Call, opens, closes, joins, leaves, loads, picks, scrambles, descrambles, Run};
+ghost use Rattle.engine.specs.Runs.{opens, closes, joins, leaves, loads, picks, scrambles, descrambles, Extends, Run};
 
 use crate::desk::{Desk, Slot};
 use crate::engine::Engine;
@@ -25,13 +25,6 @@ impl<C: Cipher, T: TailRule, S: Shelf> Engine<C, T, S> {
         ensures later { onward_of S.Shelf result ≡ S.Shelf.next_after shelf }
         ensures runs { examined (meaning_of S.Shelf shelf) ≡ Ok tt → Run (model_of C.Cipher T.TailRule S.Shelf) (given_of C.Cipher T.TailRule S.Shelf cipher tail iv shelf tag) [] result }
     {
-        Engine::wiped(cipher, tail, iv, shelf, tag)
-    }
-
-    fn wiped(cipher: C, tail: T, iv: [u8; 16], shelf: S, tag: u16) -> Engine<C, T, S>
-        ensures makes { Makes (given_of C.Cipher T.TailRule S.Shelf cipher tail iv shelf tag) (model_of C.Cipher T.TailRule S.Shelf result) }
-        ensures later { onward_of S.Shelf result ≡ S.Shelf.next_after shelf }
-    {
         all_bytes(&iv);
         Engine {
             profile: Profile { cipher, tail, iv },
@@ -44,18 +37,9 @@ impl<C: Cipher, T: TailRule, S: Shelf> Engine<C, T, S> {
     pub fn open(&mut self, service: u8) -> Result<Grant, EngineFault>
         ensures does { Opens (model_of C.Cipher T.TailRule S.Shelf self.old) service result (model_of C.Cipher T.TailRule S.Shelf self.new) }
         ensures later { onward_of S.Shelf self.new ≡ onward_of S.Shelf self.old }
-        ensures runs { (given : Given) (calls : List Call) → Run (model_of C.Cipher T.TailRule S.Shelf) given calls self.old → Run (model_of C.Cipher T.TailRule S.Shelf) given (opens service result ∷ calls) self.new }
+        ensures runs { Extends (model_of C.Cipher T.TailRule S.Shelf) (opens service result) self.old self.new }
     {
-        self.try_open(service)
-    }
-
-    fn try_open(&mut self, service: u8) -> Result<Grant, EngineFault>
-        ensures does { Opens (model_of C.Cipher T.TailRule S.Shelf self.old) service result (model_of C.Cipher T.TailRule S.Shelf self.new) }
-        ensures later { onward_of S.Shelf self.new ≡ onward_of S.Shelf self.old }
-    {
-        let Some(shut) = Service::new(service) else {
-            return Err(EngineFault::NoService);
-        };
+        let shut = Service::new(service).ok_or(EngineFault::NoService)?;
         if self.desk.is_open(shut) {
             return Err(EngineFault::AlreadyOpen);
         }
@@ -70,14 +54,7 @@ impl<C: Cipher, T: TailRule, S: Shelf> Engine<C, T, S> {
     pub fn close(&mut self, grant: Grant) -> Result<(), Unclosed>
         ensures does { Closes (model_of C.Cipher T.TailRule S.Shelf self.old) grant result (model_of C.Cipher T.TailRule S.Shelf self.new) }
         ensures later { onward_of S.Shelf self.new ≡ onward_of S.Shelf self.old }
-        ensures runs { (given : Given) (calls : List Call) → Run (model_of C.Cipher T.TailRule S.Shelf) given calls self.old → Run (model_of C.Cipher T.TailRule S.Shelf) given (closes grant result ∷ calls) self.new }
-    {
-        self.try_close(grant)
-    }
-
-    fn try_close(&mut self, grant: Grant) -> Result<(), Unclosed>
-        ensures does { Closes (model_of C.Cipher T.TailRule S.Shelf self.old) grant result (model_of C.Cipher T.TailRule S.Shelf self.new) }
-        ensures later { onward_of S.Shelf self.new ≡ onward_of S.Shelf self.old }
+        ensures runs { Extends (model_of C.Cipher T.TailRule S.Shelf) (closes grant result) self.old self.new }
     {
         let Some(service) = self.granted(&grant) else {
             return Err(Unclosed {
@@ -92,29 +69,19 @@ impl<C: Cipher, T: TailRule, S: Shelf> Engine<C, T, S> {
 
     // The service of a grant, if the grant is of this engine and the service is open.
     fn granted(&self, grant: &Grant) -> Option<Service>
-        ensures { MatchOption result ((grant.now.tag == self.now.tag && is_open (slots_of self.now.desk grant.now.service)) ≡ false) (λ s. (s.number ≡ grant.now.service) × ((grant.now.tag == self.now.tag && is_open (slots_of self.now.desk grant.now.service)) ≡ true)) }
+        ensures { let good = grant.now.tag == self.now.tag && is_open (slots_of self.now.desk grant.now.service) in MatchOption result (good ≡ false) (λ s. (s.number ≡ grant.now.service) × (good ≡ true)) }
     {
         if grant.tag != self.tag {
             return None;
         }
-        match self.desk.open_service(grant.service) {
-            Ok(service) => Some(service),
-            Err(_) => None,
-        }
+        self.desk.open_service(grant.service).ok()
     }
 
     /// Joins a PID to an open service.
     pub fn join(&mut self, service: u8, pid: u16) -> Result<(), EngineFault>
         ensures does { Joins (model_of C.Cipher T.TailRule S.Shelf self.old) service pid result (model_of C.Cipher T.TailRule S.Shelf self.new) }
         ensures later { onward_of S.Shelf self.new ≡ onward_of S.Shelf self.old }
-        ensures runs { (given : Given) (calls : List Call) → Run (model_of C.Cipher T.TailRule S.Shelf) given calls self.old → Run (model_of C.Cipher T.TailRule S.Shelf) given (joins service pid result ∷ calls) self.new }
-    {
-        self.try_join(service, pid)
-    }
-
-    fn try_join(&mut self, service: u8, pid: u16) -> Result<(), EngineFault>
-        ensures does { Joins (model_of C.Cipher T.TailRule S.Shelf self.old) service pid result (model_of C.Cipher T.TailRule S.Shelf self.new) }
-        ensures later { onward_of S.Shelf self.new ≡ onward_of S.Shelf self.old }
+        ensures runs { Extends (model_of C.Cipher T.TailRule S.Shelf) (joins service pid result) self.old self.new }
     {
         let open = self.desk.open_service(service)?;
         self.desk.components.add(pid, open)?;
@@ -125,14 +92,7 @@ impl<C: Cipher, T: TailRule, S: Shelf> Engine<C, T, S> {
     pub fn leave(&mut self, pid: u16) -> Result<(), EngineFault>
         ensures does { Leaves (model_of C.Cipher T.TailRule S.Shelf self.old) pid result (model_of C.Cipher T.TailRule S.Shelf self.new) }
         ensures later { onward_of S.Shelf self.new ≡ onward_of S.Shelf self.old }
-        ensures runs { (given : Given) (calls : List Call) → Run (model_of C.Cipher T.TailRule S.Shelf) given calls self.old → Run (model_of C.Cipher T.TailRule S.Shelf) given (leaves pid result ∷ calls) self.new }
-    {
-        self.try_leave(pid)
-    }
-
-    fn try_leave(&mut self, pid: u16) -> Result<(), EngineFault>
-        ensures does { Leaves (model_of C.Cipher T.TailRule S.Shelf self.old) pid result (model_of C.Cipher T.TailRule S.Shelf self.new) }
-        ensures later { onward_of S.Shelf self.new ≡ onward_of S.Shelf self.old }
+        ensures runs { Extends (model_of C.Cipher T.TailRule S.Shelf) (leaves pid result) self.old self.new }
     {
         if !self.desk.components.remove(pid) {
             return Err(EngineFault::NotJoined);
@@ -150,25 +110,10 @@ impl<C: Cipher, T: TailRule, S: Shelf> Engine<C, T, S> {
     ) -> Result<(), EngineFault>
         ensures does { Loads (model_of C.Cipher T.TailRule S.Shelf self.old) service parity entry.now moment result (model_of C.Cipher T.TailRule S.Shelf self.new) }
         ensures later { onward_of S.Shelf self.new ≡ after_put result service moment (onward_of S.Shelf self.old) }
-        ensures runs { (given : Given) (calls : List Call) → Run (model_of C.Cipher T.TailRule S.Shelf) given calls self.old → Run (model_of C.Cipher T.TailRule S.Shelf) given (loads service parity entry.now moment result ∷ calls) self.new }
-    {
-        self.try_load(service, parity, entry, moment)
-    }
-
-    fn try_load(
-        &mut self,
-        service: u8,
-        parity: Parity,
-        entry: &[u8; 16],
-        moment: u32,
-    ) -> Result<(), EngineFault>
-        ensures does { Loads (model_of C.Cipher T.TailRule S.Shelf self.old) service parity entry.now moment result (model_of C.Cipher T.TailRule S.Shelf self.new) }
-        ensures later { onward_of S.Shelf self.new ≡ after_put result service moment (onward_of S.Shelf self.old) }
+        ensures runs { Extends (model_of C.Cipher T.TailRule S.Shelf) (loads service parity entry.now moment result) self.old self.new }
     {
         let target = self.desk.open_service(service)?;
-        let Some(allowed) = Moment::new(moment) else {
-            return Err(EngineFault::BadMoment);
-        };
+        let allowed = Moment::new(moment).ok_or(EngineFault::BadMoment)?;
         self.desk.shelf.put(target, parity, entry, allowed)?;
         Ok(())
     }
@@ -177,14 +122,7 @@ impl<C: Cipher, T: TailRule, S: Shelf> Engine<C, T, S> {
     pub fn pick(&mut self, service: u8, parity: Parity) -> Result<(), EngineFault>
         ensures does { Picks (model_of C.Cipher T.TailRule S.Shelf self.old) service parity result (model_of C.Cipher T.TailRule S.Shelf self.new) }
         ensures later { onward_of S.Shelf self.new ≡ onward_of S.Shelf self.old }
-        ensures runs { (given : Given) (calls : List Call) → Run (model_of C.Cipher T.TailRule S.Shelf) given calls self.old → Run (model_of C.Cipher T.TailRule S.Shelf) given (picks service parity result ∷ calls) self.new }
-    {
-        self.try_pick(service, parity)
-    }
-
-    fn try_pick(&mut self, service: u8, parity: Parity) -> Result<(), EngineFault>
-        ensures does { Picks (model_of C.Cipher T.TailRule S.Shelf self.old) service parity result (model_of C.Cipher T.TailRule S.Shelf self.new) }
-        ensures later { onward_of S.Shelf self.new ≡ onward_of S.Shelf self.old }
+        ensures runs { Extends (model_of C.Cipher T.TailRule S.Shelf) (picks service parity result) self.old self.new }
     {
         let picked = self.desk.open_service(service)?;
         if self.desk.shelf.word(picked, parity).is_none() {
@@ -197,9 +135,10 @@ impl<C: Cipher, T: TailRule, S: Shelf> Engine<C, T, S> {
     /// Scrambles the joined packets of a batch. Answers how many were changed, and how many passed.
     pub fn scramble(&self, area: &mut [u8], batch: &mut [u8]) -> Result<(usize, usize), EngineFault>
         ensures does { Batches Scramble (model_of C.Cipher T.TailRule S.Shelf self.now) area.old batch.old result area.new batch.new (model_of C.Cipher T.TailRule S.Shelf self.now) }
-        ensures runs { (given : Given) (calls : List Call) → Run (model_of C.Cipher T.TailRule S.Shelf) given calls self.now → Run (model_of C.Cipher T.TailRule S.Shelf) given (scrambles area.old batch.old result area.new batch.new ∷ calls) self.now }
+        ensures runs { Extends (model_of C.Cipher T.TailRule S.Shelf) (scrambles area.old batch.old result area.new batch.new) self.now self.now }
     {
-        self.process(Direction::Scramble, area, batch)
+        let counts = batch::process(Direction::Scramble, &self.profile, &self.desk, area, batch)?;
+        Ok(counts)
     }
 
     /// Descrambles the joined packets of a batch. Answers how many were changed, and how many passed.
@@ -209,20 +148,9 @@ impl<C: Cipher, T: TailRule, S: Shelf> Engine<C, T, S> {
         batch: &mut [u8],
     ) -> Result<(usize, usize), EngineFault>
         ensures does { Batches Descramble (model_of C.Cipher T.TailRule S.Shelf self.now) area.old batch.old result area.new batch.new (model_of C.Cipher T.TailRule S.Shelf self.now) }
-        ensures runs { (given : Given) (calls : List Call) → Run (model_of C.Cipher T.TailRule S.Shelf) given calls self.now → Run (model_of C.Cipher T.TailRule S.Shelf) given (descrambles area.old batch.old result area.new batch.new ∷ calls) self.now }
+        ensures runs { Extends (model_of C.Cipher T.TailRule S.Shelf) (descrambles area.old batch.old result area.new batch.new) self.now self.now }
     {
-        self.process(Direction::Descramble, area, batch)
-    }
-
-    fn process(
-        &self,
-        direction: Direction,
-        area: &mut [u8],
-        batch: &mut [u8],
-    ) -> Result<(usize, usize), EngineFault>
-        ensures { Batches direction (model_of C.Cipher T.TailRule S.Shelf self.now) area.old batch.old result area.new batch.new (model_of C.Cipher T.TailRule S.Shelf self.now) }
-    {
-        let counts = batch::process(direction, &self.profile, &self.desk, area, batch)?;
+        let counts = batch::process(Direction::Descramble, &self.profile, &self.desk, area, batch)?;
         Ok(counts)
     }
 }

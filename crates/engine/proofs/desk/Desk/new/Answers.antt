@@ -7,10 +7,8 @@ use Rattle.engine.proofs.desk.Desk.new.Goals as goal
 pub returns : goal.returns
 returns g c =
     record {
-      held = c.wipe_all.ensures.held;
-      next = c.wipe_all.ensures.next;
+      wipes = c.wipe_all.ensures.wipes;
       later = c.wipe_all.ensures.later;
-      reads = c.wipe_all.ensures.reads;
       slots = λ k. at_replicate (λ (s : Slot). s) 32 k Shut Shut refl;
       components = ap (map (λ c. (c.pid, c.service.number))) c.new.ensures.rows;
       joined = c.new.ensures.joined;

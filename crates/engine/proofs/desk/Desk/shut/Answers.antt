@@ -6,10 +6,8 @@ use Rattle.engine.proofs.desk.Desk.shut.Goals as goal
 pub returns : goal.returns
 returns g c =
     record {
-      held = search rules;
-      next = search rules;
+      wipes = search rules;
       later = search rules;
-      reads = search rules;
       slots = search rules;
       components = without_service_lem c.args.self.now.components _ c.args.service.number (ap components_of c.set_slot.ensures.components ∙ c.remove_service.ensures.rows);
       joined = search rules;

@@ -1,11 +1,10 @@
-use Rattle.std.proofs.Common.{◌≡◌, ℕ, cond, ltb, None}
-use Rattle.word.specs.declared.parity.Parity.{Parity}
+use Rattle.std.proofs.Common.{◌≡◌}
+use Rattle.shelf.specs.Shelves.{meaning_of}
+use Rattle.engine.specs.Wiped.{WipesBelow}
 use Rattle.engine.proofs.desk.methods.wipe_all.Given as goal
 
 abbrev pub invariant-loop-number : goal.invariant-loop-number
-invariant-loop-number g l =
-    let s = g.S.Shelf in
-    ((k : ℕ) (q : Parity) → s.held l.shelf k q ≡ cond (ltb k l.number) None (s.held l.initial.shelf k q))
-    × (s.next l.shelf ≡ s.next l.initial.shelf)
-    × (s.next_after l.shelf ≡ s.next_after l.initial.shelf)
-    × (s.reads l.shelf ≡ s.reads l.initial.shelf)
+invariant-loop-number g l = record {
+  wiped : WipesBelow (meaning_of g.S.Shelf l.initial.shelf) l.number (meaning_of g.S.Shelf l.shelf);
+  later : g.S.Shelf.next_after l.shelf ≡ g.S.Shelf.next_after l.initial.shelf;
+}

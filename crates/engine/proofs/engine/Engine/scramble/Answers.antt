@@ -1,5 +1,9 @@
+use Rattle.std.proofs.Common.{rules}
 use Rattle.engine.specs.Runs.{more}
 use Rattle.engine.proofs.engine.Engine.scramble.Goals as goal
 
-pub returns : goal.returns
-returns g c = record { does = c.process.ensures; runs = λ given calls run. more run c.process.ensures }
+pub returns-in_err-counts-clause-runs : goal.returns-in_err-counts-clause-runs
+returns-in_err-counts-clause-runs g c = λ given calls run. more run (search rules)
+
+pub returns-clause-runs : goal.returns-clause-runs
+returns-clause-runs g c = λ given calls run. more run (search rules)
