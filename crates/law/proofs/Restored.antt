@@ -29,8 +29,8 @@ changed_by m keys area batch (Err f) area' batch' laws iv b i inside differs = a
 
 -- the engine accepts what the batch does
 from_batch_lem : (counts : ℕ × ℕ) (c : Result (ℕ × ℕ) BatchFault) → Ok counts ≡ from_batch c → c ≡ Ok counts
-from_batch_lem counts (Ok n) e = let is : counts ≡ n = cc in ap (λ (x : ℕ × ℕ). Ok x) (sym is)
-from_batch_lem counts (Err f) e = let z : ◌≡◌ {A = ℕ} 0 1 = cc in absurd (omega arith)
+from_batch_lem counts (Ok n) e = cc
+from_batch_lem counts (Err f) e = cc
 
 -- a packet is scrambled in one way only
 same_word : (m : Meaning) (keys : Keys) (p p' : List ℕ) (s t : Scrambled m keys p p') → (s.parity ≡ t.parity) × (s.word ≡ t.word)
@@ -50,7 +50,7 @@ like_itself m = record { width = refl; E = λ w b. refl; D = λ w b. refl; off =
 abbrev by_calls : (given : Given) (calls : List Call) (m : Model) (p p' : List ℕ) → Holds given calls m
     → Scrambled given.profile (keys_of m) p p' → Scrambled given.profile (keys_by given calls) p p'
 by_calls given calls m p p' h s =
-    let joined : joined_by calls (pid_of p) ≡ Some s.service = sym (h.1 (pid_of p)) ∙ s.joined in
+    let joined : joined_by calls (pid_of p) ≡ Some s.service = sym (h.joined (pid_of p)) ∙ s.joined in
     record {
       service = s.service;
       parity = s.parity;
@@ -58,8 +58,8 @@ by_calls given calls m p p' h s =
       start = s.start;
       clear = s.clear;
       joined = joined;
-      picked = sym (h.2 s.service) ∙ s.picked;
-      held = sym (h.3 s.service s.parity (h.6 (pid_of p) s.service joined)) ∙ s.held;
+      picked = sym (h.slots.picked s.service) ∙ s.picked;
+      held = sym (h.shelf.words s.service s.parity (h.joined_known (pid_of p) s.service joined)) ∙ s.held;
       starts = s.starts;
       shows = s.shows;
       named = s.named;
@@ -72,28 +72,28 @@ module _ {E F : Type 0} (one : E → Model) (two : F → Model) (lawful : (e : E
       let h = holds one given calls e run in
       let m : Meaning = given.profile in
       let keys : Keys = keys_of (one e) in
-      let laws : Lawful m = subst (λ (x : Meaning). Lawful x) h.9 (lawful e) in
+      let laws : Lawful m = subst (λ (x : Meaning). Lawful x) h.profile (lawful e) in
       let c : Result (ℕ × ℕ) BatchFault = counts_of Scramble (one e) area batch in
-      let b = changed_by m keys area batch c area' batch' laws h.10 (subst (λ (x : Meaning). Batched Scramble x keys area batch c area' batch') h.9 s.batched) i inside differs in
-      let own = (restores m m laws laws h.10 (like_itself m) keys area batch area' batch' b.0 b.1 i inside b.2).0 in (
+      let b = changed_by m keys area batch c area' batch' laws h.iv (subst (λ (x : Meaning). Batched Scramble x keys area batch c area' batch') h.profile s.batched) i inside differs in
+      let own = (restores m m laws laws h.iv (like_itself m) keys area batch area' batch' b.0 b.1 i inside b.2).0 in (
         by_calls given calls (one e) (packet_at batch i) (packet_at batch' i) h own,
         λ given₂ calls₂ f run₂ alike area₂ batch₂ area₂' batch₂' counts after₂ s₂ j inside₂ same service₂ joined held.
             let h₂ = holds two given₂ calls₂ f run₂ in
             let m₂ : Meaning = given₂.profile in
             let keys₂ : Keys = keys_of (two f) in
-            let laws₂ : Lawful m₂ = subst (λ (x : Meaning). Lawful x) h₂.9 (lawful₂ f) in
+            let laws₂ : Lawful m₂ = subst (λ (x : Meaning). Lawful x) h₂.profile (lawful₂ f) in
             let c₂ : Result (ℕ × ℕ) BatchFault = counts_of Descramble (two f) area₂ batch₂ in
             let b₂ : Batched Descramble m₂ keys₂ area₂ batch₂ (Ok counts) area₂' batch₂' =
             subst (λ (x : Result (ℕ × ℕ) BatchFault). Batched Descramble m₂ keys₂ area₂ batch₂ x area₂' batch₂') (from_batch_lem counts c₂ s₂.answer)
-            (subst (λ (x : Meaning). Batched Descramble x keys₂ area₂ batch₂ c₂ area₂' batch₂') h₂.9 s₂.batched) in
-            let both = restores m m₂ laws laws₂ h.10 alike keys area batch area' batch' b.0 b.1 i inside b.2 in
+            (subst (λ (x : Meaning). Batched Descramble x keys₂ area₂ batch₂ c₂ area₂' batch₂') h₂.profile s₂.batched) in
+            let both = restores m m₂ laws laws₂ h.iv alike keys area batch area' batch' b.0 b.1 i inside b.2 in
             let way = same_word m keys (packet_at batch i) (packet_at batch' i) own both.0 in
             let word : keys₂.held service₂ both.0.parity ≡ Some both.0.word =
             ap (keys₂.held service₂) (sym way.0)
-            ∙ h₂.3 service₂ own.parity (h₂.6 (pid_of (packet_at batch₂ j)) service₂ joined)
+            ∙ h₂.shelf.words service₂ own.parity (h₂.joined_known (pid_of (packet_at batch₂ j)) service₂ joined)
             ∙ held
             ∙ ap (λ (w : Word). Some w) way.1 in
-            both.1 keys₂ area₂ batch₂ area₂' batch₂' counts b₂ j inside₂ same service₂ (h₂.1 (pid_of (packet_at batch₂ j)) ∙ joined) word,
+            both.1 keys₂ area₂ batch₂ area₂' batch₂' counts b₂ j inside₂ same service₂ (h₂.joined (pid_of (packet_at batch₂ j)) ∙ joined) word,
       )
 
   pub law : Law one two
