@@ -27,14 +27,11 @@ fn closed<C: Cipher, T: TailRule, S: Shelf>(
     engine: &mut Engine<C, T, S>,
     grant: Grant,
 ) -> Result<(), Fail> {
-    match engine.close(grant) {
-        Ok(()) => Ok(()),
-        Err(unclosed) => {
-            let Unclosed { grant, fault: _ } = unclosed;
-            let Grant { tag: _, service: _ } = grant;
-            Err(Fail::new("the grant was refused"))
-        }
-    }
+    engine.close(grant).map_err(|unclosed| {
+        let Unclosed { grant, fault: _ } = unclosed;
+        let Grant { tag: _, service: _ } = grant;
+        Fail::new("the grant was refused")
+    })
 }
 
 /// Loads and picks a word of an open service, joins the PID to it, and has a batch go through.
@@ -69,11 +66,9 @@ fn session<C: Cipher, T: TailRule, S: Shelf>(
 
 /// A clear packet of the PID with a payload of 184 equal bytes.
 fn packet(pid: u16, value: u8) -> [u8; 188] {
+    let [high, low] = pid.to_be_bytes();
     let mut packet = [value; 188];
-    packet[0] = 0x47;
-    packet[1] = (pid / 256 % 32) as u8;
-    packet[2] = (pid % 256) as u8;
-    packet[3] = 0x15;
+    packet[..4].copy_from_slice(&[0x47, high, low, 0x15]);
     packet
 }
 
@@ -109,13 +104,11 @@ fn another_engine_hands_a_grant_back(rt: HostRuntime) -> Result<(), Fail> {
     let mut engine = cissa_engine(1);
     let mut other = cissa_engine(2);
     let grant = engine.open(3)?;
-    match other.close(grant) {
-        Ok(()) => Err(Fail::new("the grant was taken")),
-        Err(unclosed) => {
-            let Unclosed { grant, fault } = unclosed;
-            closed(&mut engine, grant)?;
-            assert_eq!(rt; fault, EngineFault::BadGrant);
-            Ok(())
-        }
-    }
+    let Err(unclosed) = other.close(grant) else {
+        return Err(Fail::new("the grant was taken"));
+    };
+    let Unclosed { grant, fault } = unclosed;
+    closed(&mut engine, grant)?;
+    assert_eq!(rt; fault, EngineFault::BadGrant);
+    Ok(())
 }

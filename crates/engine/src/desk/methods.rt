@@ -1,4 +1,4 @@
-ghost use Rattle.std.specs.Prelude.{◌≡◌, ℕ, ◌<◌, not, [], if◌then◌else◌, Some, None, filter, MatchResult, ◌==◌, nat_eq};
+ghost use Rattle.std.specs.Prelude.{◌≡◌, ℕ, not, [], if◌then◌else◌, Some, None, filter, MatchResult, ◌==◌, nat_eq};
 ghost use Rattle.component.specs.Table.{joined as joined_in, without_service};
 ghost use Rattle.shelf.specs.Meaning.{Wipes};
 ghost use Rattle.shelf.specs.Shelves.{meaning_of};
@@ -14,21 +14,13 @@ use component::Components;
 use shelf::Shelf;
 use word::{Parity, Service, Word};
 
-/// The service of a number below 32.
-fn numbered(number: u8) -> Service
-    requires { number < 32 }
-    ensures { result.number ≡ number }
-{
-    Service::new(number).unwrap()
-}
-
 /// Wipes all 32 services of a shelf.
 pub(crate) fn wipe_all<S: Shelf>(shelf: &mut S)
     ensures wipes { WipesBelow (meaning_of S.Shelf shelf.old) 32 (meaning_of S.Shelf shelf.new) }
     ensures later { S.Shelf.next_after shelf.new ≡ S.Shelf.next_after shelf.old }
 {
-    for number in 0..32 {
-        shelf.wipe(numbered(number));
+    for service in Service::all() {
+        shelf.wipe(service);
     }
 }
 

@@ -150,7 +150,13 @@ impl<C: Cipher, T: TailRule, S: Shelf> Engine<C, T, S> {
         ensures does { Batches Descramble (model_of C.Cipher T.TailRule S.Shelf self.now) area.old batch.old result area.new batch.new (model_of C.Cipher T.TailRule S.Shelf self.now) }
         ensures runs { Extends (model_of C.Cipher T.TailRule S.Shelf) (descrambles area.old batch.old result area.new batch.new) self.now self.now }
     {
-        let counts = batch::process(Direction::Descramble, &self.profile, &self.desk, area, batch)?;
+        let counts = batch::process(
+            Direction::Descramble,
+            &self.profile,
+            &self.desk,
+            area,
+            batch,
+        )?;
         Ok(counts)
     }
 }

@@ -4,12 +4,8 @@ use Rattle.engine.specs.declared.desk.Slot.{Slot}
 use Rattle.engine.specs.declared.desk.Slot.TheVariants.{Shut}
 use Rattle.engine.proofs.desk.Desk.new.Goals as goal
 
-pub returns : goal.returns
-returns g c =
-    record {
-      wipes = c.wipe_all.ensures.wipes;
-      later = c.wipe_all.ensures.later;
-      slots = λ k. at_replicate (λ (s : Slot). s) 32 k Shut Shut refl;
-      components = ap (map (λ c. (c.pid, c.service.number))) c.new.ensures.rows;
-      joined = c.new.ensures.joined;
-    }
+pub returns-clause-slots : goal.returns-clause-slots
+returns-clause-slots g c = λ k. at_replicate (λ (s : Slot). s) 32 k Shut Shut refl
+
+pub returns-clause-components : goal.returns-clause-components
+returns-clause-components g c = ap (map (λ c. (c.pid, c.service.number))) c.new.ensures.rows
