@@ -5,12 +5,11 @@ use Rattle.engine.specs.Calls.{Answer, closed, unless, open_answer, load_answer}
 use Rattle.engine.specs.Model.{Model, is_open}
 use Rattle.engine.specs.declared.desk.Slot.{Slot}
 use Rattle.engine.specs.declared.faults.EngineFault.{EngineFault}
-use Rattle.engine.specs.declared.faults.EngineFault.TheVariants.{Shelf, NoService, AlreadyOpen, NotOpen, BadMoment}
 use Rattle.engine.specs.declared.grant.Grant.{Grant}
 use Rattle.shelf.proofs.Fresh.{fresh}
 use Rattle.shelf.specs.Examined.{any_below, holds_at, loaded_at, examined, Fresh}
 use Rattle.shelf.specs.Meaning.{ShelfMeaning}
-use Rattle.shelf.specs.declared.faults.ShelfFault.TheVariants.{TooSoon, HoldsWord, Loaded}
+use Rattle.shelf.specs.declared.faults.ShelfFault.TheVariants.{HoldsWord, Loaded}
 
 -- a shelf that examine accepts
 pub accepted_shelf : (m : ShelfMeaning) → examined m ≡ Ok tt → Fresh m
