@@ -7,6 +7,7 @@ use word::Parity;
 mod methods;
 
 /// A service: shut, or open, with the parity that is picked for it, if one is.
+// An Option<Option<Parity>> would not say which None is a shut service.
 #[derive(Clone, Copy)]
 pub enum Slot {
     Shut,
