@@ -1,31 +1,11 @@
 -- An input that comes field by field is answered as the whole of it.
-use Rattle.std.proofs.Common.{◌≡◌, ℕ, zero, suc, ◌+◌, ◌-◌, ◌*◌, ◌≤◌, Bool, true, cond, ◌&&◌, leb, List, [], ◌∷◌, ◌++◌, length, take, drop, sym, refl, ap, ◌∙◌, append_assoc, append-nil, arith, length-append, length-drop}
+use Rattle.std.proofs.Common.{◌≡◌, ℕ, ◌+◌, ◌-◌, ◌*◌, Bool, true, ◌&&◌, leb, List, [], ◌∷◌, ◌++◌, length, take, drop, sym, ap, ◌∙◌, append_assoc, append-nil, arith, length-append}
 use Rattle.std.proofs.lemmas.List.{drop-drop, drop_at, take_at}
 use Rattle.std.proofs.lemmas.Bool.Decides.{nat_tests}
-use Rattle.wire.specs.Fields.{Field, asked, answer, answers, state_through, stated, lacking, holds_field, first_field, fields_within, rest_within, fields_in, rest_in, cut_answer, output_to}
+use Rattle.wire.specs.Fields.{Field, asked, answer, answers, state_through, lacking, holds_field, first_field, fields_in, rest_in, cut_answer, output_to}
 use Rattle.wire.specs.States.{State, state_after}
 use Rattle.wire.specs.Streams.{OneField, FieldByField}
-
--- as many steps as bytes are enough
-enough_fields : (n k : ℕ) (xs : List ℕ) → length xs ≤ n → length xs ≤ k → fields_within n xs ≡ fields_within k xs
-enough_fields zero zero xs h l = refl
-enough_fields zero (suc k) [] h l = refl
-enough_fields zero (suc k) (x ∷ xs) h l = absurd (omega arith)
-enough_fields (suc n) zero [] h l = refl
-enough_fields (suc n) zero (x ∷ xs) h l = absurd (omega arith)
-enough_fields (suc n) (suc k) xs h l =
-    let d : length (drop (3 + stated xs) xs) ≡ length xs - (3 + stated xs) = length-drop (3 + stated xs) xs in
-    ap (λ (fs : List Field). cond (holds_field xs) (first_field xs ∷ fs) []) (enough_fields n k (drop (3 + stated xs) xs) (omega arith) (omega arith))
-
-enough_rest : (n k : ℕ) (xs : List ℕ) → length xs ≤ n → length xs ≤ k → rest_within n xs ≡ rest_within k xs
-enough_rest zero zero xs h l = refl
-enough_rest zero (suc k) [] h l = refl
-enough_rest zero (suc k) (x ∷ xs) h l = absurd (omega arith)
-enough_rest (suc n) zero [] h l = refl
-enough_rest (suc n) zero (x ∷ xs) h l = absurd (omega arith)
-enough_rest (suc n) (suc k) xs h l =
-    let d : length (drop (3 + stated xs) xs) ≡ length xs - (3 + stated xs) = length-drop (3 + stated xs) xs in
-    ap (λ (r : List ℕ). cond (holds_field xs) r xs) (enough_rest n k (drop (3 + stated xs) xs) (omega arith) (omega arith))
+use Rattle.wire.proofs.Fields.{begins}
 
 -- a field of tag a, length bytes b and c and value v, with other bytes behind it
 module _ (a b c : ℕ) (v rest : List ℕ) (long : length v ≡ b * 256 + c) where
@@ -50,18 +30,12 @@ module _ (a b c : ℕ) (v rest : List ℕ) (long : length v ≡ b * 256 + c) whe
 
   pub fields_of : fields_in whole ≡ field ∷ fields_in rest
   fields_of =
-      let n : length (v ++ rest) ≡ length v + length rest = length-append v rest in
-      ap (λ (x : Bool). cond x (first_field whole ∷ fields_within (suc (suc (length (v ++ rest)))) (drop (3 + (b * 256 + c)) whole)) []) holds
-      ∙ ap (λ (l : List ℕ). first_field whole ∷ fields_within (suc (suc (length (v ++ rest)))) l) behind
-      ∙ ap (λ (x : List ℕ). record { tag = a; value = x } ∷ fields_within (suc (suc (length (v ++ rest)))) rest) value
-      ∙ ap (λ (fs : List Field). field ∷ fs) (enough_fields (suc (suc (length (v ++ rest)))) (length rest) rest (omega arith) (omega arith))
+      (begins whole holds).fields
+      ∙ ap (λ (l : List ℕ). first_field whole ∷ fields_in l) behind
+      ∙ ap (λ (x : List ℕ). record { tag = a; value = x } ∷ fields_in rest) value
 
   pub rest_of : rest_in whole ≡ rest_in rest
-  rest_of =
-      let n : length (v ++ rest) ≡ length v + length rest = length-append v rest in
-      ap (λ (x : Bool). cond x (rest_within (suc (suc (length (v ++ rest)))) (drop (3 + (b * 256 + c)) whole)) whole) holds
-      ∙ ap (rest_within (suc (suc (length (v ++ rest))))) behind
-      ∙ enough_rest (suc (suc (length (v ++ rest)))) (length rest) rest (omega arith) (omega arith)
+  rest_of = (begins whole holds).rest ∙ ap rest_in behind
 
 -- what a field and the bytes behind it come to
 record Apart (m : State) (first rest : List ℕ) : Type 0 where

@@ -1,3 +1,4 @@
+pub mod Answered
 pub mod Areas
 pub mod Calls
 pub mod Faults

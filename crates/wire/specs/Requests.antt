@@ -1,11 +1,15 @@
 -- What a field asks for, in the order of the tests.
-use Rattle.std.specs.Prelude.{ℕ, ◌+◌, ◌*◌, Bool, true, false, cond, List, length, take, drop, Ok, Err, Result, ◌==◌, nat_le, slice_index}
+use Rattle.std.specs.Prelude.{ℕ, ◌+◌, ◌*◌, cond, List, length, take, drop, Ok, Err, Result, ◌==◌, nat_le, slice_index}
+use Rattle.batch.specs.declared.plan.Direction.{Direction}
+use Rattle.batch.specs.declared.plan.Direction.TheVariants as direction
 use Rattle.word.specs.declared.parity.Parity.{Parity}
 use Rattle.word.specs.declared.parity.Parity.TheVariants.{Even, Odd}
 use Rattle.wire.specs.declared.faults.ProgramFault.{ProgramFault}
 use Rattle.wire.specs.declared.faults.ProgramFault.TheVariants.{UnknownTag, BadValue}
 use Rattle.wire.specs.declared.request.Request.{Request}
-use Rattle.wire.specs.declared.request.Request.TheVariants.{Join, Load, Pick, Scramble, Descramble}
+use Rattle.wire.specs.declared.request.Request.TheVariants.{Join, Load, Pick, Batch}
+use Rattle.wire.specs.declared.request.Tag.{Tag}
+use Rattle.wire.specs.declared.request.Tag.TheVariants as tag
 
 -- a request, or why there is none
 abbrev pub Asked : Type 0
@@ -45,30 +49,43 @@ abbrev pub pick_in : List ℕ → Asked
 pick_in value = of_length 1 value (under (parity_of (slice_index value 0)) Pick)
 
 -- tags 4 and 5: a batch of at most 64 packets
-abbrev pub batch_in : List ℕ → Request → Asked
-batch_in value request = cond (nat_le (length value) 12032) (Ok request) (Err BadValue)
+abbrev pub batch_in : List ℕ → Direction → Asked
+batch_in value d = cond (nat_le (length value) 12032) (Ok (Batch d)) (Err BadValue)
+
+-- the tag that a byte is
+abbrev pub tag_in : ℕ → Result Tag ProgramFault
+tag_in byte =
+    cond (byte == 1) (Ok tag.Join)
+    (cond (byte == 2) (Ok tag.Load)
+    (cond (byte == 3) (Ok tag.Pick)
+    (cond (byte == 4) (Ok tag.Scramble)
+    (cond (byte == 5) (Ok tag.Descramble) (Err UnknownTag)))))
+
+-- what a value asks for under a tag
+abbrev pub asked_under : Result Tag ProgramFault → List ℕ → Asked
+asked_under (Ok tag.Join) value = join_in value
+asked_under (Ok tag.Load) value = load_in value
+asked_under (Ok tag.Pick) value = pick_in value
+asked_under (Ok tag.Scramble) value = batch_in value direction.Scramble
+asked_under (Ok tag.Descramble) value = batch_in value direction.Descramble
+asked_under (Err f) value = Err f
 
 -- the tag is looked at first, then the value
 abbrev pub request_of : ℕ → List ℕ → Asked
-request_of tag value =
-    cond (tag == 1) (join_in value)
-    (cond (tag == 2) (load_in value)
-    (cond (tag == 3) (pick_in value)
-    (cond (tag == 4) (batch_in value Scramble)
-    (cond (tag == 5) (batch_in value Descramble) (Err UnknownTag)))))
+request_of byte value = asked_under (tag_in byte) value
 
--- the tag of a request's answer: its own plus 128
-abbrev pub answer_tag : Request → ℕ
-answer_tag (Join pid) = 1 + 128
-answer_tag (Load p entry moment) = 2 + 128
-answer_tag (Pick p) = 3 + 128
-answer_tag Scramble = 4 + 128
-answer_tag Descramble = 5 + 128
+-- the tag of a request
+abbrev pub tag_of : Request → Tag
+tag_of (Join pid) = tag.Join
+tag_of (Load p entry moment) = tag.Load
+tag_of (Pick p) = tag.Pick
+tag_of (Batch direction.Scramble) = tag.Scramble
+tag_of (Batch direction.Descramble) = tag.Descramble
 
--- a batch is answered with its bytes
-abbrev pub carries_batch : Request → Bool
-carries_batch (Join pid) = false
-carries_batch (Load p entry moment) = false
-carries_batch (Pick p) = false
-carries_batch Scramble = true
-carries_batch Descramble = true
+-- the tag of the answer, in a byte: the field's plus 128
+abbrev pub answer_byte : Tag → ℕ
+answer_byte tag.Join = 1 + 128
+answer_byte tag.Load = 2 + 128
+answer_byte tag.Pick = 3 + 128
+answer_byte tag.Scramble = 4 + 128
+answer_byte tag.Descramble = 5 + 128

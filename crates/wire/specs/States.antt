@@ -6,7 +6,7 @@ use Rattle.engine.specs.declared.desk.Slot.TheVariants.{Live}
 use Rattle.shelf.specs.Meaning.{ShelfMeaning, here}
 use Rattle.word.specs.declared.parity.Parity.{Parity}
 use Rattle.wire.specs.Requests.{Asked}
-use Rattle.wire.specs.declared.request.Request.TheVariants.{Join, Load, Pick, Scramble, Descramble}
+use Rattle.wire.specs.declared.request.Request.TheVariants.{Join, Load, Pick, Batch}
 
 pub record State : Type 0 where
   -- the program's engine
@@ -66,6 +66,5 @@ abbrev pub state_after : State → Asked → State
 state_after s (Ok (Join pid)) = with_model s (after_join s.model pid (join_answer s.model 0 pid))
 state_after s (Ok (Load p entry moment)) = after_load s p entry moment (load_answer s.model 0 moment)
 state_after s (Ok (Pick p)) = with_model s (after_pick s.model p (pick_answer s.model 0 p))
-state_after s (Ok Scramble) = s
-state_after s (Ok Descramble) = s
+state_after s (Ok (Batch d)) = s
 state_after s (Err f) = s

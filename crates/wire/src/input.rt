@@ -1,13 +1,11 @@
 // The fields of an input, one behind the other.
-ghost use Rattle.std.specs.Prelude.{◌≡◌, ◌+◌, ◌≤◌, true, false, List, ◌++◌, length, drop, IfOk, MatchOption, OnOk};
+ghost use Rattle.std.specs.Prelude.{◌≡◌, ◌+◌, true, false, List, [], ◌∷◌, ◌++◌, drop, IfOk, MatchOption, OnOk};
 ghost use Rattle.engine.specs.Model.{Given};
 ghost use Rattle.engine.specs.Runs.{Call, Run};
 ghost use Rattle.law.specs.Law.{After};
-ghost use Rattle.wire.specs.Calls.{calls_for};
-ghost use Rattle.wire.specs.Fields.{stated, lacking, holds_field, fields_in, rest_in, answer, answers, state_through, calls_through, cut_answer, output_to};
+ghost use Rattle.wire.specs.Answered.{Answered, field_of};
+ghost use Rattle.wire.specs.Fields.{stated, lacking, holds_field, first_field, fields_in, rest_in, state_through, calls_through, cut_answer, output_to};
 ghost use Rattle.wire.specs.Programs.{view_of, state_of};
-ghost use Rattle.wire.specs.Requests.{request_of};
-ghost use Rattle.wire.specs.States.{state_after};
 
 use crate::faults::ProgramFault;
 use crate::reply::Reply;
@@ -18,29 +16,34 @@ use profile::Aes128;
 use shelf::{Pacing, PlainShelf};
 use std::alloc::{AllocError, Global};
 
-// The length of the value of the field at the start of an input, if all of the field is there.
-fn stated_length(input: &[u8]) -> Option<usize>
-    ensures { MatchOption result (holds_field input.now ≡ false) (λ n. (n ≡ stated input.now) × (holds_field input.now ≡ true) × (3 + n ≤ length input.now)) }
+/// A field of an input.
+#[derive(Clone, Copy)]
+struct Field<'a> {
+    tag: u8,
+    value: &'a [u8],
+}
+
+// The field at the start of an input and what is behind it, if all of the field is there.
+fn split_field(input: &[u8]) -> Option<(Field<'_>, &[u8])>
+    ensures { MatchOption result (holds_field input.now ≡ false) (λ split. (holds_field input.now ≡ true) × (field_of split.0.tag split.0.value.now ≡ first_field input.now) × (split.1.now ≡ drop (3 + stated input.now) input.now)) }
 {
-    if input.len() < 3 {
+    let [tag, high, low, behind @ ..] = input else {
         return None;
-    }
-    let length = usize::from(input[1]) * 256 + usize::from(input[2]);
-    if input.len() < 3 + length {
-        return None;
-    }
-    Some(length)
+    };
+    let length = usize::from(u16::from_be_bytes([*high, *low]));
+    let (value, rest) = behind.split_at_checked(length)?;
+    Some((Field { tag: *tag, value }, rest))
 }
 
 /// How many bytes more a field that begins so has at least: those of its tag and length, and then those of its value.
 pub fn missing(field: &[u8]) -> usize
     ensures { result ≡ lacking field.now }
 {
-    if field.len() < 3 {
+    let [_, high, low, value @ ..] = field else {
         return 3 - field.len();
-    }
-    let whole = 3 + usize::from(field[1]) * 256 + usize::from(field[2]);
-    whole.saturating_sub(field.len())
+    };
+    let length = usize::from(u16::from_be_bytes([*high, *low]));
+    length.saturating_sub(value.len())
 }
 
 impl Session {
@@ -48,44 +51,32 @@ impl Session {
     fn answer_one(
         &mut self,
         heap: Global,
-        tag: u8,
-        value: &[u8],
+        field: Field<'_>,
         out: &mut Vec<u8>,
     ) -> Result<(), AllocError>
-        ensures out { OnOk result (out.new.items ≡ out.old.items ++ answer (state_of self.old.engine) (record { tag = tag; value = value.now })) }
-        ensures state { OnOk result (state_of self.new.engine ≡ state_after (state_of self.old.engine) (request_of tag value.now)) }
-        ensures runs { OnOk result ((given : Given) (calls : List Call) → Run view_of given calls self.old.engine → Run view_of given (calls_for (view_of self.old.engine) (request_of tag value.now) value.now ++ calls) self.new.engine) }
+        ensures { OnOk result (Answered self.old.engine out.old.items (field_of field.entry.tag field.entry.value.now ∷ []) self.new.engine out.new.items) }
     {
-        let mut left = Vec::new(heap);
-        left.extend_from_slice(value)?;
-        let reply = self.answer(tag, left.as_mut_slice());
-        reply.write(left.as_slice(), out)?;
-        Ok(())
+        let mut left = Vec::from_slice(heap, field.value)?;
+        let reply = self.answer(field.tag, left.as_mut_slice());
+        reply.write(left.as_slice(), out)
     }
 
-    // Answers the whole fields of an input, and says how many bytes they take.
-    fn answer_whole(
+    // Answers the whole fields of an input, and hands back the bytes behind them.
+    fn answer_whole<'a>(
         &mut self,
         heap: Global,
-        input: &[u8],
+        input: &'a [u8],
         out: &mut Vec<u8>,
-    ) -> Result<usize, AllocError>
-        ensures taken { IfOk result (λ at. (at ≤ length input.now) × (drop at input.now ≡ rest_in input.now)) }
-        ensures out { OnOk result (out.new.items ≡ out.old.items ++ answers (state_of self.old.engine) (fields_in input.now)) }
-        ensures state { OnOk result (state_of self.new.engine ≡ state_through (state_of self.old.engine) (fields_in input.now)) }
-        ensures runs { OnOk result ((given : Given) (calls : List Call) → Run view_of given calls self.old.engine → Run view_of given (calls_through (state_of self.old.engine) (fields_in input.now) calls) self.new.engine) }
+    ) -> Result<&'a [u8], AllocError>
+        ensures rest { IfOk result (λ rest. rest.now ≡ rest_in input.now) }
+        ensures answered { OnOk result (Answered self.old.engine out.old.items (fields_in input.now) self.new.engine out.new.items) }
     {
-        let mut at = 0;
-        // No input has more fields than bytes.
-        for _turn in 0..input.len() {
-            let rest = &input[at..];
-            let Some(length) = stated_length(rest) else {
-                return Ok(at);
-            };
-            self.answer_one(heap, rest[0], &rest[3..3 + length], out)?;
-            at += 3 + length;
+        let mut rest = input;
+        while let Some((field, behind)) = split_field(rest) {
+            self.answer_one(heap, field, out)?;
+            rest = behind;
         }
-        Ok(at)
+        Ok(rest)
     }
 
     /// Answers every field of an input, one behind the other, behind what is written; where the input ends inside a field,
@@ -110,8 +101,8 @@ impl Session {
             ClearTail,
             Pacing<PlainShelf>,
         >();
-        let taken = self.answer_whole(heap, input, out)?;
-        answer_rest(&input[taken..], out)?;
+        let rest = self.answer_whole(heap, input, out)?;
+        answer_rest(rest, out)?;
         Ok(())
     }
 }
@@ -124,10 +115,8 @@ fn answer_rest(rest: &[u8], out: &mut Vec<u8>) -> Result<(), AllocError>
         return Ok(());
     }
     let cut = Reply {
-        tag: 255,
+        tag: None,
         outcome: Err(ProgramFault::CutShort),
-        with_value: false,
     };
-    cut.write(&[], out)?;
-    Ok(())
+    cut.write(&[], out)
 }

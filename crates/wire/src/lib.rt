@@ -11,6 +11,6 @@ mod theorem;
 pub use faults::ProgramFault;
 pub use input::missing;
 pub use reply::Reply;
-pub use request::{Request, request_of};
+pub use request::{Request, Tag, request_of};
 pub use session::Session;
 pub use theorem::fields_may_come_one_by_one;

@@ -1,15 +1,48 @@
 ghost use Rattle.std.specs.Prelude.{◌≡◌};
-ghost use Rattle.wire.specs.Requests.{parity_of, join_in, load_in, pick_in, batch_in, request_of, answer_tag, carries_batch};
-ghost use Rattle.wire.specs.declared.request.Request.TheVariants.{Scramble, Descramble};
+ghost use Rattle.wire.specs.Requests.{tag_in, parity_of, join_in, load_in, pick_in, batch_in, request_of, tag_of, answer_byte};
 
 use crate::faults::ProgramFault;
+use batch::{Direction, MAX_BATCH_LEN};
 use word::Parity;
 
-/// The longest value: a batch of 64 packets.
-const LONGEST: usize = 12032;
+/// The first byte of a field that asks for something.
+#[derive(Clone, Copy, Debug, PartialEq, Eq)]
+pub enum Tag {
+    Join = 1,
+    Load = 2,
+    Pick = 3,
+    Scramble = 4,
+    Descramble = 5,
+}
+
+impl TryFrom<u8> for Tag {
+    type Error = ProgramFault;
+
+    ghost try_from_gives = { λ byte r. r ≡ tag_in byte };
+
+    fn try_from(byte: u8) -> Result<Tag, ProgramFault> {
+        match byte {
+            1 => Ok(Tag::Join),
+            2 => Ok(Tag::Load),
+            3 => Ok(Tag::Pick),
+            4 => Ok(Tag::Scramble),
+            5 => Ok(Tag::Descramble),
+            _ => Err(ProgramFault::UnknownTag),
+        }
+    }
+}
+
+impl Tag {
+    /// The tag of the answer to such a field: its own plus 128.
+    pub fn answer(self) -> u8
+        ensures { result ≡ answer_byte self }
+    {
+        self as u8 + 128
+    }
+}
 
 /// What a field asks for.
-#[derive(Clone, Copy)]
+#[derive(Clone, Copy, PartialEq, Eq)]
 pub enum Request {
     /// Join a PID.
     Join(u16),
@@ -17,33 +50,21 @@ pub enum Request {
     Load(Parity, [u8; 16], u32),
     /// Pick a parity.
     Pick(Parity),
-    /// Scramble the value.
-    Scramble,
-    /// Descramble the value.
-    Descramble,
+    /// Scramble or descramble the value.
+    Batch(Direction),
 }
 
 impl Request {
-    /// The tag of the request's answer.
-    pub fn answer_tag(&self) -> u8
-        ensures { result ≡ answer_tag self.now }
+    /// The tag of the fields that ask for such a thing.
+    pub fn tag(&self) -> Tag
+        ensures { result ≡ tag_of self.now }
     {
         match self {
-            Request::Join(_) => 129,
-            Request::Load(_, _, _) => 130,
-            Request::Pick(_) => 131,
-            Request::Scramble => 132,
-            Request::Descramble => 133,
-        }
-    }
-
-    /// Whether the answer has the field's value behind it.
-    pub fn carries_batch(&self) -> bool
-        ensures { result ≡ carries_batch self.now }
-    {
-        match self {
-            Request::Join(_) | Request::Load(_, _, _) | Request::Pick(_) => false,
-            Request::Scramble | Request::Descramble => true,
+            Request::Join(_) => Tag::Join,
+            Request::Load(_, _, _) => Tag::Load,
+            Request::Pick(_) => Tag::Pick,
+            Request::Batch(Direction::Scramble) => Tag::Scramble,
+            Request::Batch(Direction::Descramble) => Tag::Descramble,
         }
     }
 }
@@ -52,55 +73,54 @@ impl Request {
 pub fn request_of(tag: u8, value: &[u8]) -> Result<Request, ProgramFault>
     ensures { result ≡ request_of tag value.now }
 {
-    match tag {
-        1 => join_in(value),
-        2 => load_in(value),
-        3 => pick_in(value),
-        4 => batch_in(value, Request::Scramble),
-        5 => batch_in(value, Request::Descramble),
-        _ => Err(ProgramFault::UnknownTag),
+    match Tag::try_from(tag)? {
+        Tag::Join => join_in(value),
+        Tag::Load => load_in(value),
+        Tag::Pick => pick_in(value),
+        Tag::Scramble => batch_in(value, Direction::Scramble),
+        Tag::Descramble => batch_in(value, Direction::Descramble),
     }
 }
 
 fn join_in(value: &[u8]) -> Result<Request, ProgramFault>
     ensures { result ≡ join_in value.now }
 {
-    if value.len() != 2 {
+    let [high, low] = value else {
         return Err(ProgramFault::BadValue);
-    }
-    Ok(Request::Join(u16::from(value[0]) * 256 + u16::from(value[1])))
+    };
+    Ok(Request::Join(u16::from_be_bytes([*high, *low])))
 }
 
 fn load_in(value: &[u8]) -> Result<Request, ProgramFault>
     ensures { result ≡ load_in value.now }
 {
-    if value.len() != 21 {
+    let [parity, entry @ .., a, b, c, d] = value else {
         return Err(ProgramFault::BadValue);
-    }
-    let parity = parity_of(value[0])?;
-    let mut entry = [0; 16];
-    entry.copy_from_slice(&value[1..17]);
-    let moment = u32::from_be_bytes([value[17], value[18], value[19], value[20]]);
+    };
+    let Ok(entry) = <[u8; 16]>::try_from(entry) else {
+        return Err(ProgramFault::BadValue);
+    };
+    let parity = parity_of(*parity)?;
+    let moment = u32::from_be_bytes([*a, *b, *c, *d]);
     Ok(Request::Load(parity, entry, moment))
 }
 
 fn pick_in(value: &[u8]) -> Result<Request, ProgramFault>
     ensures { result ≡ pick_in value.now }
 {
-    if value.len() != 1 {
+    let [parity] = value else {
         return Err(ProgramFault::BadValue);
-    }
-    let parity = parity_of(value[0])?;
-    Ok(Request::Pick(parity))
+    };
+    Ok(Request::Pick(parity_of(*parity)?))
 }
 
-fn batch_in(value: &[u8], request: Request) -> Result<Request, ProgramFault>
-    ensures { result ≡ batch_in value.now request }
+fn batch_in(value: &[u8], direction: Direction) -> Result<Request, ProgramFault>
+    ensures { result ≡ batch_in value.now direction }
 {
-    if value.len() > LONGEST {
+    if value.len() > MAX_BATCH_LEN {
         return Err(ProgramFault::BadValue);
     }
-    Ok(request)
+    Ok(Request::Batch(direction))
 }
 
 fn parity_of(byte: u8) -> Result<Parity, ProgramFault>

@@ -1,21 +1,19 @@
-ghost use Rattle.std.specs.Prelude.{◌≡◌, List, [], ◌∷◌, ◌++◌, Ok};
-ghost use Rattle.batch.specs.declared.plan.Direction.TheVariants as direction;
+ghost use Rattle.std.specs.Prelude.{◌≡◌, List, [], ◌∷◌, Ok};
 ghost use Rattle.engine.specs.Calls.{join_answer, load_answer, pick_answer, from_batch};
-ghost use Rattle.engine.specs.Model.{Given};
-ghost use Rattle.engine.specs.Runs.{Call, Run};
-ghost use Rattle.wire.specs.Calls.{calls_for};
+ghost use Rattle.engine.specs.Runs.{Run};
+ghost use Rattle.wire.specs.Answered.{Does};
 ghost use Rattle.wire.specs.Programs.{view_of, state_of, program_given, opening, opening_call};
 ghost use Rattle.wire.specs.Replies.{counts, batch_left, outcome_at, reply_to, value_left};
 ghost use Rattle.wire.specs.Requests.{request_of};
-ghost use Rattle.wire.specs.States.{state_after};
-ghost use Rattle.wire.specs.declared.request.Request.TheVariants.{Join, Load, Pick, Scramble, Descramble};
+ghost use Rattle.wire.specs.declared.request.Request.TheVariants.{Join, Load, Pick, Batch};
 
 use crate::faults::ProgramFault;
 use crate::reply::Reply;
 use crate::request::{Request, request_of};
 use crate::session::Session;
+use batch::Direction;
 use cipher::Profile;
-use engine::{Engine, EngineFault, Unclosed};
+use engine::{Engine, EngineFault};
 use profile::cissa_profile;
 use shelf::{Pacing, PlainShelf};
 use word::Parity;
@@ -31,13 +29,11 @@ impl Session {
     {
         let Profile { cipher, tail, iv } = cissa_profile();
         let mut engine = Engine::make(cipher, tail, iv, Pacing::new(PlainShelf::new()), TAG);
-        match engine.open(0) {
-            Ok(grant) => Session {
-                engine,
-                grant,
-                area: [0; 176],
-            },
-            Err(_) => unreachable(),
+        let grant = engine.open(0).unwrap();
+        Session {
+            engine,
+            grant,
+            area: [0; 176],
         }
     }
 
@@ -48,76 +44,57 @@ impl Session {
             grant,
             area: _,
         } = self;
-        match engine.close(grant) {
-            Ok(()) => {}
-            Err(unclosed) => {
-                let Unclosed {
-                    grant: _grant,
-                    fault: _,
-                } = unclosed;
-                unreachable()
-            }
-        }
+        engine.close(grant).unwrap();
     }
 
     fn join(&mut self, pid: u16) -> Result<(), EngineFault>
         ensures answer { result ≡ join_answer (view_of self.old.engine) 0 pid }
-        ensures state { state_of self.new.engine ≡ state_after (state_of self.old.engine) (Ok (Join pid)) }
-        ensures runs { (given : Given) (calls : List Call) → Run view_of given calls self.old.engine → Run view_of given (calls_for (view_of self.old.engine) (Ok (Join pid)) [] ++ calls) self.new.engine }
+        ensures does { Does self.old.engine (Ok (Join pid)) [] self.new.engine }
     {
         self.engine.join(0, pid)
     }
 
     fn load(&mut self, parity: Parity, entry: &[u8; 16], moment: u32) -> Result<(), EngineFault>
         ensures answer { result ≡ load_answer (view_of self.old.engine) 0 moment }
-        ensures state { state_of self.new.engine ≡ state_after (state_of self.old.engine) (Ok (Load parity entry.now moment)) }
-        ensures runs { (given : Given) (calls : List Call) → Run view_of given calls self.old.engine → Run view_of given (calls_for (view_of self.old.engine) (Ok (Load parity entry.now moment)) [] ++ calls) self.new.engine }
+        ensures does { Does self.old.engine (Ok (Load parity entry.now moment)) [] self.new.engine }
     {
         self.engine.load(0, parity, entry, moment)
     }
 
     fn pick(&mut self, parity: Parity) -> Result<(), EngineFault>
         ensures answer { result ≡ pick_answer (view_of self.old.engine) 0 parity }
-        ensures state { state_of self.new.engine ≡ state_after (state_of self.old.engine) (Ok (Pick parity)) }
-        ensures runs { (given : Given) (calls : List Call) → Run view_of given calls self.old.engine → Run view_of given (calls_for (view_of self.old.engine) (Ok (Pick parity)) [] ++ calls) self.new.engine }
+        ensures does { Does self.old.engine (Ok (Pick parity)) [] self.new.engine }
     {
         self.engine.pick(0, parity)
     }
 
-    fn scramble(&mut self, batch: &mut [u8]) -> Result<(usize, usize), EngineFault>
-        ensures answer { result ≡ from_batch (counts direction.Scramble (view_of self.old.engine) batch.old) }
-        ensures batch { batch.new ≡ batch_left direction.Scramble (view_of self.old.engine) batch.old }
-        ensures state { self.new.engine ≡ self.old.engine }
-        ensures runs { (given : Given) (calls : List Call) → Run view_of given calls self.old.engine → Run view_of given (calls_for (view_of self.old.engine) (Ok Scramble) batch.old ++ calls) self.new.engine }
+    fn turn(
+        &mut self,
+        direction: Direction,
+        batch: &mut [u8],
+    ) -> Result<(usize, usize), EngineFault>
+        ensures answer { result ≡ from_batch (counts direction (view_of self.old.engine) batch.old) }
+        ensures batch { batch.new ≡ batch_left direction (view_of self.old.engine) batch.old }
+        ensures does { Does self.old.engine (Ok (Batch direction)) batch.old self.new.engine }
     {
-        self.engine.scramble(&mut self.area, batch)
+        match direction {
+            Direction::Scramble => self.engine.scramble(&mut self.area, batch),
+            Direction::Descramble => self.engine.descramble(&mut self.area, batch),
+        }
     }
 
-    fn descramble(&mut self, batch: &mut [u8]) -> Result<(usize, usize), EngineFault>
-        ensures answer { result ≡ from_batch (counts direction.Descramble (view_of self.old.engine) batch.old) }
-        ensures batch { batch.new ≡ batch_left direction.Descramble (view_of self.old.engine) batch.old }
-        ensures state { self.new.engine ≡ self.old.engine }
-        ensures runs { (given : Given) (calls : List Call) → Run view_of given calls self.old.engine → Run view_of given (calls_for (view_of self.old.engine) (Ok Descramble) batch.old ++ calls) self.new.engine }
-    {
-        self.engine.descramble(&mut self.area, batch)
-    }
-
-    // Asks the engine for what is requested, for service 0.
-    fn ask(&mut self, request: Request, value: &mut [u8]) -> Result<(), ProgramFault>
+    /// Does what is requested, for service 0; `value` is the batch, if it is one that is asked for.
+    pub fn ask(&mut self, request: Request, value: &mut [u8]) -> Result<(), ProgramFault>
         ensures outcome { result ≡ outcome_at (view_of self.old.engine) request value.old }
         ensures value { value.new ≡ value_left (view_of self.old.engine) (Ok request) value.old }
-        ensures state { state_of self.new.engine ≡ state_after (state_of self.old.engine) (Ok request) }
-        ensures runs { (given : Given) (calls : List Call) → Run view_of given calls self.old.engine → Run view_of given (calls_for (view_of self.old.engine) (Ok request) value.old ++ calls) self.new.engine }
+        ensures does { Does self.old.engine (Ok request) value.old self.new.engine }
     {
         match request {
             Request::Join(pid) => self.join(pid)?,
             Request::Load(parity, entry, moment) => self.load(parity, &entry, moment)?,
             Request::Pick(parity) => self.pick(parity)?,
-            Request::Scramble => {
-                self.scramble(value)?;
-            }
-            Request::Descramble => {
-                self.descramble(value)?;
+            Request::Batch(direction) => {
+                self.turn(direction, value)?;
             }
         }
         Ok(())
@@ -127,19 +104,16 @@ impl Session {
     pub fn answer(&mut self, tag: u8, value: &mut [u8]) -> Reply
         ensures reply { result ≡ reply_to (view_of self.old.engine) (request_of tag value.old) value.old }
         ensures value { value.new ≡ value_left (view_of self.old.engine) (request_of tag value.old) value.old }
-        ensures state { state_of self.new.engine ≡ state_after (state_of self.old.engine) (request_of tag value.old) }
-        ensures runs { (given : Given) (calls : List Call) → Run view_of given calls self.old.engine → Run view_of given (calls_for (view_of self.old.engine) (request_of tag value.old) value.old ++ calls) self.new.engine }
+        ensures does { Does self.old.engine (request_of tag value.old) value.old self.new.engine }
     {
         match request_of(tag, value) {
             Ok(request) => Reply {
-                tag: request.answer_tag(),
+                tag: Some(request.tag()),
                 outcome: self.ask(request, value),
-                with_value: request.carries_batch(),
             },
             Err(fault) => Reply {
-                tag: 255,
+                tag: None,
                 outcome: Err(fault),
-                with_value: false,
             },
         }
     }

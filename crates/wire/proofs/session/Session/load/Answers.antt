@@ -9,21 +9,19 @@ use Rattle.wire.proofs.Answered.{answered}
 use Rattle.wire.proofs.States.{loaded}
 use Rattle.wire.proofs.session.Session.load.Goals as goal
 
-pub invariant_of-self : goal.invariant_of-self
-invariant_of-self c =
-    let does = c.load.ensures.does in
-    record {
-      tagged = c.args.self.now.tagged ∙ sym does.tag;
-      service = c.args.self.now.service;
-      opened = ap (λ (slots : ℕ → Slot). is_open (slots 0)) does.slots ∙ c.args.self.now.opened;
-      clean = c.args.self.now.clean;
-    }
+pub invariant_of-self-clause-tagged : goal.invariant_of-self-clause-tagged
+invariant_of-self-clause-tagged c = c.args.self.now.tagged ∙ sym c.load.ensures.does.tag
+
+pub invariant_of-self-clause-opened : goal.invariant_of-self-clause-opened
+invariant_of-self-clause-opened c = ap (λ (slots : ℕ → Slot). is_open (slots 0)) c.load.ensures.does.slots ∙ c.args.self.now.opened
 
 pub returns : goal.returns
 returns c =
     let does = c.load.ensures.does in
     record {
       answer = does.answer;
-      state = loaded (state_of c.args.self.now.engine) (state_of c.load.new.self) _ _ _ _ (λ k. refl) does c.load.ensures.later ∙ ap (after_load (state_of c.args.self.now.engine) c.args.parity c.args.entry.now c.args.moment) does.answer;
-      runs = λ given calls run. answered view_of given calls _ (λ (r : Answer). loads 0 c.args.parity c.args.entry.now c.args.moment r) _ _ does.answer (c.load.ensures.runs given calls run);
+      does = (
+        loaded (state_of c.args.self.now.engine) (state_of c.load.new.self) _ _ _ _ (λ k. refl) does c.load.ensures.later ∙ ap (after_load (state_of c.args.self.now.engine) c.args.parity c.args.entry.now c.args.moment) does.answer,
+        λ given calls run. answered view_of given calls _ (λ (r : Answer). loads 0 c.args.parity c.args.entry.now c.args.moment r) _ _ does.answer (c.load.ensures.runs given calls run),
+      );
     }

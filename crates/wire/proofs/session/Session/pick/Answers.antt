@@ -12,6 +12,8 @@ returns c =
     let does = c.pick.ensures.does in
     record {
       answer = does.answer;
-      state = both _ _ _ _ (picked _ _ _ _ does ∙ ap (after_pick (view_of c.args.self.now.engine) c.args.parity) does.answer) (named (paced_after c.pick.new.self.desk.shelf) (paced_after c.args.self.now.engine.desk.shelf) c.pick.ensures.later);
-      runs = λ given calls run. answered view_of given calls _ (λ (r : Answer). picks 0 c.args.parity r) _ _ does.answer (c.pick.ensures.runs given calls run);
+      does = (
+        both _ _ _ _ (picked _ _ _ _ does ∙ ap (after_pick (view_of c.args.self.now.engine) c.args.parity) does.answer) (named (paced_after c.pick.new.self.desk.shelf) (paced_after c.args.self.now.engine.desk.shelf) c.pick.ensures.later),
+        λ given calls run. answered view_of given calls _ (λ (r : Answer). picks 0 c.args.parity r) _ _ does.answer (c.pick.ensures.runs given calls run),
+      );
     }

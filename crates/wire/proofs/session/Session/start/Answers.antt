@@ -7,13 +7,20 @@ use Rattle.wire.proofs.States.{both, named}
 use Rattle.wire.proofs.Opening.{fresh, fresh_after, made_of, accepted, begun, granted, begun_run}
 use Rattle.wire.proofs.session.Session.start.Goals as goal
 
+pub unwrap-grant-requires : goal.unwrap-grant-requires
+unwrap-grant-requires c =
+    let shelf = fresh c.new-2.result c.new.result c.new-2.ensures.below c.new.ensures c.new-2.ensures.paces in
+    let made = made_of c.cissa_profile.result.cipher c.cissa_profile.result.tail c.cissa_profile.result.iv c.new-2.result c.cissa_profile.ensures shelf in
+    let b = begun _ _ _ _ made c.make-engine.ensures.makes c.open.ensures.does in
+    rw b.answer
+
 pub invariant_of-result : goal.invariant_of-result
 unfolding key_area
 invariant_of-result c =
     let shelf = fresh c.new-2.result c.new.result c.new-2.ensures.below c.new.ensures c.new-2.ensures.paces in
     let made = made_of c.cissa_profile.result.cipher c.cissa_profile.result.tail c.cissa_profile.result.iv c.new-2.result c.cissa_profile.ensures shelf in
     let b = begun _ _ _ _ made c.make-engine.ensures.makes c.open.ensures.does in
-    let grant = granted c.in-Ok.grant (sym c.in-Ok.is ∙ b.answer) in
+    let grant = granted c.unwrap-grant.result (sym c.unwrap-grant.ensures ∙ b.answer) in
     record {
       tagged = grant.0 ∙ sym (ap (λ (m : Model). m.tag) b.state);
       service = grant.1;
