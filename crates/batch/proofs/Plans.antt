@@ -14,8 +14,8 @@ use Rattle.word.specs.declared.parity.Parity.TheVariants as parity
 use Rattle.word.specs.declared.word.Word.{Word}
 use Rattle.batch.specs.Plan.{Keys, Plan, with_word, with_picked, directed, with_payload, with_service, plan_for}
 use Rattle.batch.specs.declared.plan.Change.{Change}
-use Rattle.batch.specs.declared.plan.Direction.{Direction}
-use Rattle.batch.specs.declared.plan.Direction.TheVariants.{Scramble, Descramble}
+use Rattle.cipher.specs.declared.direction.Direction.{Direction}
+use Rattle.cipher.specs.declared.direction.Direction.TheVariants.{Scramble, Descramble}
 use Rattle.batch.specs.declared.plan.Objection.TheVariants.{BadHeader}
 
 -- within a packet, after its header

@@ -1,7 +1,8 @@
 -- What a batch becomes, and what a batch call answers.
 use Rattle.std.specs.Prelude.{◌≡◌, ℕ, ◌%◌, Bool, cond, ◌&&◌, List, ◌++◌, length, take, drop, replicate, is_ok, Ok, Err, Result, ◌==◌, nat_le}
 use Rattle.cipher.specs.Bytes.{Bytes}
-use Rattle.cipher.specs.Profiles.{Meaning, scrambled, descrambled}
+use Rattle.cipher.specs.Profiles.{Meaning}
+use Rattle.cipher.specs.Turns.{turned}
 use Rattle.packet.specs.Header.{with_control}
 use Rattle.packet.specs.declared.header.ScramblingControl.{ScramblingControl}
 use Rattle.packet.specs.declared.header.ScramblingControl.TheVariants as control
@@ -13,8 +14,8 @@ use Rattle.batch.specs.Plan.{Keys, plan_of}
 use Rattle.batch.specs.declared.faults.BatchFault.{BatchFault}
 use Rattle.batch.specs.declared.faults.BatchFault.TheVariants.{KeyArea, BatchLength, Packet, NoWord}
 use Rattle.batch.specs.declared.plan.Change.{Change}
-use Rattle.batch.specs.declared.plan.Direction.{Direction}
-use Rattle.batch.specs.declared.plan.Direction.TheVariants.{Scramble, Descramble}
+use Rattle.cipher.specs.declared.direction.Direction.{Direction}
+use Rattle.cipher.specs.declared.direction.Direction.TheVariants.{Scramble, Descramble}
 use Rattle.batch.specs.declared.plan.Objection.{Objection}
 use Rattle.batch.specs.declared.plan.Objection.TheVariants as objection
 
@@ -26,8 +27,7 @@ control_after Descramble q = control.Clear
 
 -- a payload after it was changed
 abbrev pub payload_after : Direction → Meaning → Word → List ℕ → List ℕ
-payload_after Scramble = scrambled
-payload_after Descramble = descrambled
+payload_after = turned
 
 -- a packet changed: the control bits, the payload, and all other bytes as they were
 abbrev pub changed : Direction → Meaning → Change → List ℕ → List ℕ

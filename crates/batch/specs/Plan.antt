@@ -11,8 +11,8 @@ use Rattle.word.specs.declared.parity.Parity.TheVariants as parity
 use Rattle.word.specs.declared.word.Word.{Word}
 use Rattle.batch.specs.declared.keyring.Keyring.{Ghosts as KeyringGhosts}
 use Rattle.batch.specs.declared.plan.Change.{Change}
-use Rattle.batch.specs.declared.plan.Direction.{Direction}
-use Rattle.batch.specs.declared.plan.Direction.TheVariants.{Scramble, Descramble}
+use Rattle.cipher.specs.declared.direction.Direction.{Direction}
+use Rattle.cipher.specs.declared.direction.Direction.TheVariants.{Scramble, Descramble}
 use Rattle.batch.specs.declared.plan.Objection.{Objection}
 use Rattle.batch.specs.declared.plan.Objection.TheVariants.{BadHeader, NoWord}
 

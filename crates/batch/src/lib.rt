@@ -7,7 +7,8 @@ mod keyring;
 mod pass;
 mod plan;
 
+pub use cipher::Direction;
 pub use faults::BatchFault;
 pub use keyring::Keyring;
 pub use pass::{MAX_BATCH_LEN, process};
-pub use plan::{Change, Direction, Objection};
+pub use plan::{Change, Objection};

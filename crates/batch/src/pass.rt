@@ -2,7 +2,7 @@
 ghost use Rattle.std.specs.Prelude.{◌≡◌, ℕ, ◌+◌, ◌*◌, ◌/◌, ◌%◌, ◌<◌, ◌≤◌, Bool, ◌&&◌, length, replicate, is_ok, if◌then◌else◌, nat_eq};
 ghost use Rattle.cipher.specs.Profiles.{meaning};
 ghost use Rattle.packet.specs.Header.{header_of};
-ghost use Rattle.batch.specs.Batches.{control_after, payload_after, changed, batch_after, objection_at, batch_answer, Batched};
+ghost use Rattle.batch.specs.Batches.{control_after, changed, batch_after, objection_at, batch_answer, Batched};
 ghost use Rattle.batch.specs.Packets.{packets, first_fault, changes, followed, changed_count, passed_count};
 ghost use Rattle.batch.specs.Plan.{keys_of, plan_of};
 ghost use Rattle.batch.specs.Prepared.{Prepared};
@@ -11,8 +11,8 @@ ghost use Rattle.word.specs.declared.word.Word.{Word};
 use crate::faults::BatchFault;
 use crate::guard::KeyArea;
 use crate::keyring::Keyring;
-use crate::plan::{Change, Direction, Objection, plan};
-use cipher::{Cipher, Profile, TailRule, all_bytes};
+use crate::plan::{Change, Objection, plan};
+use cipher::{Cipher, Direction, Profile, TailRule, all_bytes};
 use packet::{Header, PACKET_LEN, PacketFault, ScramblingControl, set_control};
 use word::{Parity, Word};
 
@@ -134,17 +134,10 @@ impl<C: Cipher, T: TailRule, K: Keyring> Pass<'_, C, T, K> {
         ensures { packet.new ≡ changed self.now.direction (meaning C.Cipher T.TailRule self.now.profile.now) how packet.old }
     {
         set_control(packet, control_after(self.direction, how.parity));
-        self.change_payload(area, &mut packet[how.start..]);
-    }
-
-    // Scrambles or descrambles a payload. The area is a schedule, so its length is not refused.
-    fn change_payload(&self, area: &[u8], payload: &mut [u8])
-        ensures { (w : Word) → area.now ≡ C.Cipher.schedule self.now.profile.now.cipher w → payload.new ≡ payload_after self.now.direction (meaning C.Cipher T.TailRule self.now.profile.now) w payload.old }
-    {
-        let _ = match self.direction {
-            Direction::Scramble => self.profile.scramble_payload(area, payload),
-            Direction::Descramble => self.profile.descramble_payload(area, payload),
-        };
+        // The area is as long as a schedule, so it is not refused.
+        let _ = self
+            .profile
+            .process_payload(self.direction, area, &mut packet[how.start..]);
     }
 }
 

@@ -4,15 +4,9 @@ ghost use Rattle.batch.specs.Plan.{keys_of, with_word, scramble_plan, descramble
 ghost use Rattle.batch.specs.declared.plan.Objection.TheVariants.{BadHeader};
 
 use crate::keyring::Keyring;
+use cipher::Direction;
 use packet::{Header, HeaderFault, SYNC_BYTE, ScramblingControl};
 use word::{Parity, Service, Word};
-
-/// Which way a batch goes.
-#[derive(Clone, Copy, Debug, PartialEq, Eq)]
-pub enum Direction {
-    Scramble,
-    Descramble,
-}
 
 /// How a packet is to be changed: under which word, and from which byte on.
 #[derive(Clone, Copy)]

@@ -7,8 +7,8 @@ use Rattle.std.proofs.lemmas.List.{drop-drop, drop_all, take_rest, append-nil, l
 use Rattle.std.proofs.lemmas.Slice.{take-put_mid, drop-put_mid}
 use Rattle.cipher.specs.Profiles.{Meaning}
 use Rattle.cipher.specs.Turns.{turned_block, next_value, turned_tail, turned_blocks}
-use Rattle.cipher.specs.declared.profile.direction.Direction.{Direction}
-use Rattle.cipher.specs.declared.profile.direction.Direction.TheVariants.{Scramble, Descramble}
+use Rattle.cipher.specs.declared.direction.Direction.{Direction}
+use Rattle.cipher.specs.declared.direction.Direction.TheVariants.{Scramble, Descramble}
 use Rattle.word.specs.declared.word.Word.{Word}
 
 -- what a write of so many bytes leaves of the length

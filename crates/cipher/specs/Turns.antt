@@ -3,8 +3,8 @@ use Rattle.std.specs.Prelude.{ℕ, List}
 use Rattle.cipher.specs.Bytes.{xors}
 use Rattle.cipher.specs.Chain.{chained, unchained}
 use Rattle.cipher.specs.Profiles.{Meaning, scrambled, descrambled}
-use Rattle.cipher.specs.declared.profile.direction.Direction.{Direction}
-use Rattle.cipher.specs.declared.profile.direction.Direction.TheVariants.{Scramble, Descramble}
+use Rattle.cipher.specs.declared.direction.Direction.{Direction}
+use Rattle.cipher.specs.declared.direction.Direction.TheVariants.{Scramble, Descramble}
 use Rattle.word.specs.declared.word.Word.{Word}
 
 -- a block, from E and D and the chain value

@@ -2,7 +2,6 @@ ghost use Rattle.std.specs.Prelude.{◌≡◌, length};
 
 mod chain;
 mod chaining;
-mod direction;
 
 pub use chaining::ScheduleLength;
 

@@ -2,7 +2,7 @@
 use Rattle.std.specs.Prelude.{◌≡◌, ℕ, ◌+◌, ◌≤◌, true, false, cond, not, ◌&&◌, ◌||◌, List, [], ◌∷◌, ◌++◌, length, is_some, is_ok, Some, None, Ok, Err, filter, Option, Result, ◌==◌, nat_lt}
 use Rattle.batch.specs.Batches.{batch_answer, Batched}
 use Rattle.batch.specs.declared.faults.BatchFault.{BatchFault}
-use Rattle.batch.specs.declared.plan.Direction.{Direction}
+use Rattle.cipher.specs.declared.direction.Direction.{Direction}
 use Rattle.cipher.specs.Bytes.{Bytes}
 use Rattle.component.specs.Table.{without_service}
 use Rattle.shelf.specs.Meaning.{here}

@@ -1,6 +1,6 @@
 -- Lists of calls with their answers, and the engines that they lead to.
 use Rattle.std.specs.Prelude.{◌≡◌, ℕ, List, [], ◌∷◌, Ok, Result}
-use Rattle.batch.specs.declared.plan.Direction.TheVariants.{Scramble, Descramble}
+use Rattle.cipher.specs.declared.direction.Direction.TheVariants.{Scramble, Descramble}
 use Rattle.shelf.specs.Examined.{examined}
 use Rattle.word.specs.declared.parity.Parity.{Parity}
 use Rattle.engine.specs.Calls.{Answer, Counts, Makes, Opens, Closes, Joins, Leaves, Loads, Picks, Batches}

@@ -5,7 +5,7 @@ use Rattle.batch.specs.Batches.{Batched}
 use Rattle.batch.specs.Packets.{packet_at, changes}
 use Rattle.batch.specs.Plan.{Keys, plan_of}
 use Rattle.batch.specs.declared.faults.BatchFault.{BatchFault}
-use Rattle.batch.specs.declared.plan.Direction.TheVariants.{Scramble, Descramble}
+use Rattle.cipher.specs.declared.direction.Direction.TheVariants.{Scramble, Descramble}
 use Rattle.cipher.proofs.RoundTrip.{Lawful}
 use Rattle.cipher.specs.Bytes.{Block}
 use Rattle.cipher.specs.Profiles.{Meaning}

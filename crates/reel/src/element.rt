@@ -1,6 +1,6 @@
 // What changes the packets of a stream.
 ghost use Rattle.std.specs.Prelude.{◌≡◌, ℕ, List};
-ghost use Rattle.batch.specs.declared.plan.Direction.TheVariants.{Scramble, Descramble};
+ghost use Rattle.cipher.specs.declared.direction.Direction.TheVariants.{Scramble, Descramble};
 ghost use Rattle.engine.specs.Calls.{Batches};
 ghost use Rattle.engine.specs.Model.{Model};
 

@@ -8,8 +8,8 @@ use Rattle.batch.specs.Batches.{changed, control_after, payload_after}
 use Rattle.batch.specs.Packets.{follow, followed}
 use Rattle.batch.specs.Plan.{Keys, Plan, plan_of}
 use Rattle.batch.specs.declared.plan.Change.{Change}
-use Rattle.batch.specs.declared.plan.Direction.{Direction}
-use Rattle.batch.specs.declared.plan.Direction.TheVariants.{Scramble, Descramble}
+use Rattle.cipher.specs.declared.direction.Direction.{Direction}
+use Rattle.cipher.specs.declared.direction.Direction.TheVariants.{Scramble, Descramble}
 use Rattle.cipher.proofs.RoundTrip.{Lawful, restored}
 use Rattle.cipher.specs.Bytes.{Byte, Bytes, Block}
 use Rattle.cipher.specs.Profiles.{Meaning, scrambled, descrambled}

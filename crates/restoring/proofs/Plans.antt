@@ -4,7 +4,7 @@ use Rattle.std.proofs.lemmas.Bool.{eqb-true}
 use Rattle.batch.specs.Batches.{control_after}
 use Rattle.batch.specs.Plan.{Keys, Plan, with_word, with_picked, scramble_plan, descramble_plan, with_payload, with_service, plan_for}
 use Rattle.batch.specs.declared.plan.Change.{Change}
-use Rattle.batch.specs.declared.plan.Direction.TheVariants.{Scramble, Descramble}
+use Rattle.cipher.specs.declared.direction.Direction.TheVariants.{Scramble, Descramble}
 use Rattle.batch.specs.declared.plan.Objection.TheVariants.{BadHeader}
 use Rattle.packet.specs.Header.{control_of, payload_start, start_of}
 use Rattle.packet.specs.declared.faults.HeaderFault.{HeaderFault}

@@ -10,7 +10,7 @@ use Rattle.batch.specs.Plan.{Keys, Plan, plan_of}
 use Rattle.batch.specs.declared.faults.BatchFault.{BatchFault}
 use Rattle.batch.specs.declared.faults.BatchFault.TheVariants.{KeyArea, BatchLength}
 use Rattle.batch.specs.declared.plan.Change.{Change}
-use Rattle.batch.specs.declared.plan.Direction.TheVariants.{Scramble, Descramble}
+use Rattle.cipher.specs.declared.direction.Direction.TheVariants.{Scramble, Descramble}
 use Rattle.batch.specs.declared.plan.Objection.{Objection}
 use Rattle.cipher.proofs.RoundTrip.{Lawful}
 use Rattle.cipher.specs.Bytes.{Block}

@@ -3,8 +3,8 @@ use Rattle.std.specs.Prelude.{◌≡◌, ℕ, ◌+◌, ◌/◌, ◌<◌, true, f
 use Rattle.batch.specs.Batches.{Batched, changed, control_after}
 use Rattle.batch.specs.Packets.{packet_at, changes}
 use Rattle.batch.specs.Plan.{Keys, plan_of}
-use Rattle.batch.specs.declared.plan.Direction.{Direction}
-use Rattle.batch.specs.declared.plan.Direction.TheVariants.{Scramble, Descramble}
+use Rattle.cipher.specs.declared.direction.Direction.{Direction}
+use Rattle.cipher.specs.declared.direction.Direction.TheVariants.{Scramble, Descramble}
 use Rattle.cipher.specs.Bytes.{Bytes}
 use Rattle.cipher.specs.Profiles.{Meaning, meaning}
 use Rattle.cipher.specs.declared.cipher.Cipher.{Ghosts as CipherGhosts}

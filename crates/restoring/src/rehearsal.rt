@@ -1,7 +1,7 @@
 ghost use Rattle.std.specs.Prelude.{◌≡◌, length, replicate, if◌then◌else◌, nat_eq};
 ghost use Rattle.batch.specs.Batches.{batch_answer};
 ghost use Rattle.batch.specs.Plan.{keys_of};
-ghost use Rattle.batch.specs.declared.plan.Direction.TheVariants.{Scramble};
+ghost use Rattle.cipher.specs.declared.direction.Direction.TheVariants.{Scramble};
 ghost use Rattle.cipher.specs.Profiles.{meaning};
 
 use batch::{BatchFault, Direction, Keyring, process};

@@ -3,8 +3,8 @@ use Rattle.std.specs.Prelude.{ℕ, cond, ◌&&◌, List, length, is_ok, Ok, Err,
 use Rattle.batch.specs.Batches.{batch_answer, batch_after}
 use Rattle.batch.specs.Plan.{Keys}
 use Rattle.batch.specs.declared.faults.BatchFault.{BatchFault}
-use Rattle.batch.specs.declared.plan.Direction.{Direction}
-use Rattle.batch.specs.declared.plan.Direction.TheVariants.{Scramble, Descramble}
+use Rattle.cipher.specs.declared.direction.Direction.{Direction}
+use Rattle.cipher.specs.declared.direction.Direction.TheVariants.{Scramble, Descramble}
 use Rattle.cipher.specs.Profiles.{Meaning}
 use Rattle.vectors.specs.declared.mismatch.Mismatch.{Mismatch}
 use Rattle.vectors.specs.declared.mismatch.Mismatch.TheVariants.{Counts, Refused}

@@ -1,7 +1,7 @@
 // The parts of the element that are held to vectors.
 ghost use Rattle.std.specs.Prelude.{◌≡◌, ℕ, List, Ok, Result};
 ghost use Rattle.batch.specs.Batches.{payload_after};
-ghost use Rattle.batch.specs.declared.plan.Direction.{Direction};
+ghost use Rattle.cipher.specs.declared.direction.Direction.{Direction};
 ghost use Rattle.cipher.specs.Profiles.{meaning};
 ghost use Rattle.word.specs.declared.word.Word.{Word};
 ghost use Rattle.vectors.specs.Keyring.{one_word};
@@ -68,10 +68,7 @@ impl<C: Cipher, T: TailRule> Subject for Payload<C, T> {
         let area = &mut room[0..C::SCHEDULE];
         self.0.cipher.prepare(word, area);
         // The area is as long as a schedule, so it is not refused.
-        let _ = match direction {
-            Direction::Scramble => self.0.scramble_payload(area, bytes),
-            Direction::Descramble => self.0.descramble_payload(area, bytes),
-        };
+        let _ = self.0.process_payload(direction, area, bytes);
         Ok(())
     }
 }

@@ -2,7 +2,7 @@
 use Rattle.std.proofs.Common.{◌≡◌, ℕ, cond, eqb, List, ◌∷◌, length, replicate, is_ok, Ok, Result, refl, ap, ◌∙◌, subst}
 use Rattle.batch.specs.Batches.{batch_answer, batch_after}
 use Rattle.batch.specs.declared.faults.BatchFault.{BatchFault}
-use Rattle.batch.specs.declared.plan.Direction.{Direction}
+use Rattle.cipher.specs.declared.direction.Direction.{Direction}
 use Rattle.engine.specs.Calls.{Counts, Batches, from_batch, counts_of}
 use Rattle.engine.specs.Model.{Given, keys_of}
 use Rattle.engine.specs.Runs.{Call, Run}

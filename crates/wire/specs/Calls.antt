@@ -1,7 +1,7 @@
 -- The engine's calls that fields make.
 use Rattle.std.specs.Prelude.{ℕ, List, [], ◌∷◌, Ok, Err}
-use Rattle.batch.specs.declared.plan.Direction.{Direction}
-use Rattle.batch.specs.declared.plan.Direction.TheVariants.{Scramble, Descramble}
+use Rattle.cipher.specs.declared.direction.Direction.{Direction}
+use Rattle.cipher.specs.declared.direction.Direction.TheVariants.{Scramble, Descramble}
 use Rattle.engine.specs.Calls.{Counts, join_answer, load_answer, pick_answer, from_batch}
 use Rattle.engine.specs.Model.{Model}
 use Rattle.engine.specs.Runs.{Call, joins, loads, picks, scrambles, descrambles}

@@ -2,7 +2,7 @@
 use Rattle.std.specs.Prelude.{ℕ, ◌+◌, ◌/◌, ◌%◌, Bool, true, false, cond, List, [], ◌∷◌, length, is_ok, Some, None, Ok, Err, Option, Result}
 use Rattle.batch.specs.Batches.{batch_answer, batch_after}
 use Rattle.batch.specs.declared.faults.BatchFault.{BatchFault}
-use Rattle.batch.specs.declared.plan.Direction.{Direction}
+use Rattle.cipher.specs.declared.direction.Direction.{Direction}
 use Rattle.engine.specs.Calls.{join_answer, load_answer, pick_answer, from_batch}
 use Rattle.engine.specs.Model.{Model, keys_of}
 use Rattle.engine.specs.declared.faults.EngineFault.{EngineFault}

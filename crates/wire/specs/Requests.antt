@@ -1,7 +1,7 @@
 -- What a field asks for, in the order of the tests.
 use Rattle.std.specs.Prelude.{ℕ, ◌+◌, ◌*◌, cond, List, length, take, drop, Ok, Err, Result, ◌==◌, nat_le, slice_index}
-use Rattle.batch.specs.declared.plan.Direction.{Direction}
-use Rattle.batch.specs.declared.plan.Direction.TheVariants as direction
+use Rattle.cipher.specs.declared.direction.Direction.{Direction}
+use Rattle.cipher.specs.declared.direction.Direction.TheVariants as direction
 use Rattle.word.specs.declared.parity.Parity.{Parity}
 use Rattle.word.specs.declared.parity.Parity.TheVariants.{Even, Odd}
 use Rattle.wire.specs.declared.faults.ProgramFault.{ProgramFault}

@@ -1,7 +1,7 @@
 -- Worked values, each from the definitions that the contracts cite.
 use Rattle.std.specs.Prelude.{◌≡◌, ℕ, ◌-◌, ◌/◌, ◌%◌, List, [], ◌∷◌, Some, None, Ok, Err, Option, Result, slice_index_or}
 use Rattle.batch.specs.Batches.{control_after}
-use Rattle.batch.specs.declared.plan.Direction.TheVariants.{Scramble}
+use Rattle.cipher.specs.declared.direction.Direction.TheVariants.{Scramble}
 use Rattle.packet.specs.Faults.{packet_refusal}
 use Rattle.packet.specs.Header.{adaptation_of, start_of, with_control}
 use Rattle.packet.specs.declared.faults.HeaderFault.{HeaderFault}

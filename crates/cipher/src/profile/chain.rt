@@ -5,7 +5,7 @@ ghost use Rattle.word.specs.declared.word.Word.{Word};
 
 use crate::bytes::xor_into;
 use crate::cipher::Cipher;
-use crate::profile::direction::Direction;
+use crate::direction::Direction;
 
 /// A cipher, the schedule of a word, and the chain value: the first bytes of `value`, as many as a block has.
 #[derive(Drop)]

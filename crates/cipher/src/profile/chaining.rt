@@ -1,13 +1,13 @@
 // Chaining under a profile: once, for every cipher and tail rule.
 ghost use Rattle.std.specs.Prelude.{◌≡◌, ◌/◌, ◌≤◌, false, length, take, is_ok};
-ghost use Rattle.cipher.specs.Profiles.{meaning, scrambled, descrambled, tested};
+ghost use Rattle.cipher.specs.Profiles.{meaning, tested};
 ghost use Rattle.cipher.specs.Turns.{turned, turned_blocks, turned_tail};
 ghost use Rattle.word.specs.declared.word.Word.{Word};
 
 use crate::cipher::Cipher;
+use crate::direction::Direction;
 use crate::profile::Profile;
 use crate::profile::chain::Chain;
-use crate::profile::direction::Direction;
 use crate::tail::TailRule;
 
 /// The area is not as long as the cipher's schedule.
@@ -17,26 +17,8 @@ pub struct ScheduleLength {
 }
 
 impl<C: Cipher, T: TailRule> Profile<C, T> {
-    /// Scrambles a payload under the word whose schedule the area holds.
-    pub fn scramble_payload(&self, area: &[u8], payload: &mut [u8]) -> Result<(), ScheduleLength>
-        ensures value { result ≡ tested (length area.now) C.Cipher.SCHEDULE }
-        ensures refused { is_ok result ≡ false → payload.new ≡ payload.old }
-        ensures after { (w : Word) → area.now ≡ C.Cipher.schedule self.now.cipher w → payload.new ≡ scrambled (meaning C.Cipher T.TailRule self.now) w payload.old }
-    {
-        self.turn_payload(Direction::Scramble, area, payload)
-    }
-
-    /// Descrambles a payload under the word whose schedule the area holds.
-    pub fn descramble_payload(&self, area: &[u8], payload: &mut [u8]) -> Result<(), ScheduleLength>
-        ensures value { result ≡ tested (length area.now) C.Cipher.SCHEDULE }
-        ensures refused { is_ok result ≡ false → payload.new ≡ payload.old }
-        ensures after { (w : Word) → area.now ≡ C.Cipher.schedule self.now.cipher w → payload.new ≡ descrambled (meaning C.Cipher T.TailRule self.now) w payload.old }
-    {
-        self.turn_payload(Direction::Descramble, area, payload)
-    }
-
-    // The area is as long as the cipher's schedule; then the whole payload.
-    fn turn_payload(
+    /// Scrambles or descrambles a payload under the word whose schedule the area holds.
+    pub fn process_payload(
         &self,
         direction: Direction,
         area: &[u8],

@@ -1,6 +1,6 @@
 // The eight calls. Each says what it does to an engine, and that it extends every run.
 ghost use Rattle.std.specs.Prelude.{◌≡◌, true, false, ◌&&◌, List, [], ◌∷◌, Ok, MatchOption, ◌==◌};
-ghost use Rattle.batch.specs.declared.plan.Direction.TheVariants.{Scramble, Descramble};
+ghost use Rattle.cipher.specs.declared.direction.Direction.TheVariants.{Scramble, Descramble};
 ghost use Rattle.shelf.specs.Examined.{examined};
 ghost use Rattle.shelf.specs.Onward.{after_put};
 ghost use Rattle.shelf.specs.Shelves.{meaning_of};

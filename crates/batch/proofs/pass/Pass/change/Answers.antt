@@ -14,6 +14,6 @@ returns g c =
     let marked = c.set_control.new.packet in
     let is = c.set_control.ensures ∙ ap (λ (k : ScramblingControl). with_control k p) c.control_after.ensures in
     let long : length marked ≡ 188 = c.set_control.auto.packet ∙ c.requires.size in
-    marked_put (payload_after c.args.self.now.direction m how.word) p marked c.change_payload.new.payload how.start (length marked)
+    marked_put (payload_after c.args.self.now.direction m how.word) p marked c.process_payload.new.payload how.start (length marked)
     (control_bits (control_after c.args.self.now.direction how.parity) * 64 + get_or p 3 0 % 64) refl (omega arith) (omega arith) is
-    (c.change_payload.ensures how.word c.requires.prepared)
+    (c.process_payload.ensures.after how.word c.requires.prepared)

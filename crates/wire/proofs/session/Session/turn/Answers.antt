@@ -1,4 +1,4 @@
-use Rattle.batch.specs.declared.plan.Direction.TheVariants.{Scramble, Descramble}
+use Rattle.cipher.specs.declared.direction.Direction.TheVariants.{Scramble, Descramble}
 use Rattle.wire.proofs.Batched.{turned}
 use Rattle.wire.proofs.session.Session.turn.Goals as goal
 
