@@ -3,7 +3,6 @@ use engine::EngineFault;
 use entry::EntryFault;
 use fault::Refusal;
 use std::alloc::AllocError;
-use std::fmt;
 use thiserror::Error;
 use word::ParseParityError;
 
@@ -21,7 +20,7 @@ pub enum Cause {
     Parity(#[from] ParseParityError),
     #[error("the kind is word or encrypted")]
     Kind,
-    #[error("refused: {}, {}", Refusal::from(*.0), GroupPlace(*.0))]
+    #[error("refused: {}, {}", Refusal::from(*.0), .0)]
     Group(#[from] EntryFault),
     #[error("the moment is 0 to 4,000,000,000 seconds, decimal")]
     Moment,
@@ -49,19 +48,4 @@ pub enum Cause {
 pub struct LogFault {
     pub line: usize,
     pub cause: Cause,
-}
-
-/// Where an entry is refused: the group, and how long it is or where its wrong character stands.
-#[derive(Clone, Copy)]
-pub struct GroupPlace(pub EntryFault);
-
-impl fmt::Display for GroupPlace {
-    fn fmt<W: fmt::Write>(&self, f: &mut fmt::Formatter<W>) -> fmt::Result {
-        match self.0 {
-            EntryFault::Length { group, length } => write!(f, "group {group}, length {length}"),
-            EntryFault::Digit { group, position } => {
-                write!(f, "group {group}, position {position}")
-            }
-        }
-    }
 }

@@ -9,6 +9,6 @@ mod reading;
 mod tests;
 
 pub use columns::{moment_of, pids_of};
-pub use faults::{Cause, GroupPlace, LogFault};
+pub use faults::{Cause, LogFault};
 pub use line::{Kind, LogLine};
 pub use reading::{BadLog, Log, read_log};

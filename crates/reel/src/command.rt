@@ -1,21 +1,41 @@
 // What the words of the command line ask for.
+use batch::Direction;
 use entry::{EntryFault, enter_word};
 use log_file::{Cause, moment_of, pids_of};
 use std::alloc::{AllocError, Global};
+use std::fmt;
+use std::str::FromStr;
+use thiserror::Error;
 use word::{Moment, Parity, Word};
-
-#[derive(Clone, Copy)]
-pub enum Task {
-    Scramble,
-    Descramble,
-    Rehearse,
-}
 
 #[derive(Clone, Copy)]
 pub enum ProfileName {
     Cissa,
     Idsa,
     Des,
+}
+
+impl FromStr for ProfileName {
+    type Err = Mistake;
+
+    fn from_str(text: &str) -> Result<ProfileName, Mistake> {
+        match text {
+            "cissa" => Ok(ProfileName::Cissa),
+            "idsa" => Ok(ProfileName::Idsa),
+            "des" => Ok(ProfileName::Des),
+            _ => Err(Mistake::Profile),
+        }
+    }
+}
+
+impl fmt::Display for ProfileName {
+    fn fmt<W: fmt::Write>(&self, f: &mut fmt::Formatter<W>) -> fmt::Result {
+        f.write_str(match self {
+            ProfileName::Cissa => "CISSA",
+            ProfileName::Idsa => "IDSA",
+            ProfileName::Des => "DES",
+        })
+    }
 }
 
 /// The word, its parity and the PIDs that it is for.
@@ -34,11 +54,53 @@ pub struct LogRequest {
     pub at: Option<Moment>,
 }
 
-/// Where the words come from.
+/// Where the words come from: the command line, or a log, which is asked for or read.
 #[derive(Drop)]
-pub enum KeySource {
+pub enum KeySource<L> {
     Given(Keys),
-    Logged(LogRequest),
+    Logged(L),
+}
+
+/// Where a stream comes from, or where it goes.
+#[derive(Drop)]
+pub enum Place {
+    /// Standard input or output.
+    Standard,
+    File(String),
+}
+
+impl Place {
+    fn named(heap: Global, path: &str) -> Result<Place, AllocError> {
+        match path {
+            "-" => Ok(Place::Standard),
+            _ => Ok(Place::File(String::from_str(heap, path)?)),
+        }
+    }
+}
+
+/// What to do with a stream.
+#[derive(Drop)]
+pub enum Task {
+    /// Scrambles or descrambles it, and writes the result.
+    Convert { direction: Direction, output: Place },
+    /// Scrambles it in memory, and brings it back.
+    Rehearse { shows_packets: bool },
+}
+
+impl fmt::Display for Task {
+    fn fmt<W: fmt::Write>(&self, f: &mut fmt::Formatter<W>) -> fmt::Result {
+        f.write_str(match self {
+            Task::Convert {
+                direction: Direction::Scramble,
+                ..
+            } => "scrambled",
+            Task::Convert {
+                direction: Direction::Descramble,
+                ..
+            } => "descrambled",
+            Task::Rehearse { .. } => "rehearsed",
+        })
+    }
 }
 
 /// A task on a stream.
@@ -46,71 +108,54 @@ pub enum KeySource {
 pub struct Command {
     pub task: Task,
     pub profile: ProfileName,
-    pub input: String,
-    /// Where the result goes; empty in a rehearsal.
-    pub output: String,
-    /// Whether a rehearsal prints the scrambled packets.
-    pub shows_packets: bool,
+    pub input: Place,
 }
-
-/// The path that stands for standard input or output.
-pub const STANDARD: &str = "-";
 
 impl Command {
     /// Whether the changed stream goes to standard output.
     pub fn writes_to_pipe(&self) -> bool {
-        self.output.as_str() == STANDARD
+        matches!(
+            &self.task,
+            Task::Convert {
+                output: Place::Standard,
+                ..
+            }
+        )
     }
 }
 
 /// What was not understood.
-#[derive(Clone, Copy)]
+#[derive(Clone, Copy, Debug, Error)]
 pub enum Mistake {
+    #[error("the first word is scramble, descramble or rehearse")]
     Task,
+    #[error("the profile is cissa, idsa or des")]
     Profile,
+    #[error("the parity is even or odd")]
     Parity,
+    #[error("a PID is a number, decimal or after 0x")]
     Pid,
+    #[error("the log is missing")]
     NoLog,
+    #[error("the moment is 0 to 4000000000 seconds, decimal")]
     Moment,
+    #[error("the stream to read is missing")]
     NoInput,
+    #[error("the file to write is missing")]
     NoOutput,
+    #[error("there is a word too many")]
     WordTooMany,
 }
 
-impl Mistake {
-    pub fn text(self) -> &'static str {
-        match self {
-            Mistake::Task => "the first word is scramble, descramble or rehearse",
-            Mistake::Profile => "the profile is cissa, idsa or des",
-            Mistake::Parity => "the parity is even or odd",
-            Mistake::Pid => "a PID is a number, decimal or after 0x",
-            Mistake::NoLog => "the log is missing",
-            Mistake::Moment => "the moment is 0 to 4000000000 seconds, decimal",
-            Mistake::NoInput => "the stream to read is missing",
-            Mistake::NoOutput => "the file to write is missing",
-            Mistake::WordTooMany => "there is a word too many",
-        }
-    }
-}
-
 /// Why the words are no command.
-#[derive(Clone, Copy)]
+#[derive(Clone, Copy, Debug, Error)]
 pub enum BadCommand {
-    Usage(Mistake),
-    Word(EntryFault),
-    NoMemory,
-}
-
-impl From<AllocError> for BadCommand {
-    fn from(_error: AllocError) -> BadCommand {
-        BadCommand::NoMemory
-    }
-}
-
-impl From<EntryFault> for BadCommand {
-    fn from(fault: EntryFault) -> BadCommand {
-        BadCommand::Word(fault)
-    }
+    #[error(transparent)]
+    Usage(#[from] Mistake),
+    #[error("the word was refused")]
+    Word(#[from] EntryFault),
+    #[error("there is no memory")]
+    NoMemory(#[from(alloc)] AllocError),
 }
 
 // The words of a command, of which the first ones are taken.
@@ -119,18 +164,17 @@ struct Words<'a> {
     rest: &'a [String],
 }
 
-impl<'a> Words<'a> {
-    // The next word, or an empty one.
-    fn take(&mut self) -> &'a str {
-        match self.rest {
-            [] => "",
-            [word, rest @ ..] => {
-                self.rest = rest;
-                word.as_str()
-            }
-        }
-    }
+impl<'a> Iterator for Words<'a> {
+    type Item = &'a str;
 
+    fn next(&mut self) -> Option<&'a str> {
+        let (word, rest) = self.rest.split_first()?;
+        self.rest = rest;
+        Some(word.as_str())
+    }
+}
+
+impl<'a> Words<'a> {
     // Takes the next word if it is this one.
     fn takes(&mut self, name: &str) -> bool {
         match self.rest {
@@ -141,110 +185,51 @@ impl<'a> Words<'a> {
             _ => false,
         }
     }
-}
 
-fn task_of(text: &str) -> Result<Task, BadCommand> {
-    match text {
-        "scramble" => Ok(Task::Scramble),
-        "descramble" => Ok(Task::Descramble),
-        "rehearse" => Ok(Task::Rehearse),
-        _ => Err(BadCommand::Usage(Mistake::Task)),
+    // The next word, if it is there and not empty.
+    fn path(&mut self) -> Option<&'a str> {
+        self.next().filter(|word| !word.is_empty())
+    }
+
+    // The next group of a word. One that is missing is refused as an empty one is.
+    fn group(&mut self) -> &'a str {
+        self.next().unwrap_or("")
     }
 }
 
-fn profile_of(text: &str) -> Result<ProfileName, BadCommand> {
-    match text {
-        "cissa" => Ok(ProfileName::Cissa),
-        "idsa" => Ok(ProfileName::Idsa),
-        "des" => Ok(ProfileName::Des),
-        _ => Err(BadCommand::Usage(Mistake::Profile)),
-    }
+// The first word of a command.
+#[derive(Clone, Copy)]
+enum Verb {
+    Convert(Direction),
+    Rehearse,
 }
 
-fn parity_of(text: &str) -> Result<Parity, BadCommand> {
-    match text {
-        "even" => Ok(Parity::Even),
-        "odd" => Ok(Parity::Odd),
-        _ => Err(BadCommand::Usage(Mistake::Parity)),
-    }
-}
+impl FromStr for Verb {
+    type Err = Mistake;
 
-fn given_pids(heap: Global, list: &str) -> Result<Vec<u16>, BadCommand> {
-    match pids_of(heap, list) {
-        Ok(pids) => Ok(pids),
-        Err(Cause::NoMemory(_)) => Err(BadCommand::NoMemory),
-        Err(_) => Err(BadCommand::Usage(Mistake::Pid)),
-    }
-}
-
-// Parity, the four groups of the word, PIDs.
-fn given_keys(heap: Global, words: &mut Words<'_>) -> Result<Keys, BadCommand> {
-    let parity = parity_of(words.take())?;
-    let word = enter_word(words.take(), words.take(), words.take(), words.take())?;
-    let pids = given_pids(heap, words.take())?;
-    Ok(Keys { parity, word, pids })
-}
-
-// The log's path, and the options that follow it in either order, each once.
-fn log_request(heap: Global, words: &mut Words<'_>) -> Result<LogRequest, BadCommand> {
-    let mut request = LogRequest {
-        path: String::from_str(heap, words.take())?,
-        identifier: None,
-        at: None,
-    };
-    for _ in 0..2 {
-        if request.identifier.is_none() && words.takes("--identifier") {
-            request.identifier = Some(String::from_str(heap, words.take())?);
-        } else if request.at.is_none() && words.takes("--at") {
-            request.at = Some(given_moment(words.take())?);
+    fn from_str(text: &str) -> Result<Verb, Mistake> {
+        match text {
+            "scramble" => Ok(Verb::Convert(Direction::Scramble)),
+            "descramble" => Ok(Verb::Convert(Direction::Descramble)),
+            "rehearse" => Ok(Verb::Rehearse),
+            _ => Err(Mistake::Task),
         }
     }
-    if request.path.is_empty() {
-        return Err(BadCommand::Usage(Mistake::NoLog));
-    }
-    Ok(request)
 }
 
-fn given_moment(text: &str) -> Result<Moment, BadCommand> {
-    match moment_of(text) {
-        Ok(moment) => Ok(moment),
-        Err(_) => Err(BadCommand::Usage(Mistake::Moment)),
+impl Verb {
+    // The task, whose last word follows.
+    fn task(self, heap: Global, words: &mut Words<'_>) -> Result<Task, BadCommand> {
+        match self {
+            Verb::Convert(direction) => {
+                let output = Place::named(heap, words.path().ok_or(Mistake::NoOutput)?)?;
+                Ok(Task::Convert { direction, output })
+            }
+            Verb::Rehearse => Ok(Task::Rehearse {
+                shows_packets: packets_shown(words),
+            }),
+        }
     }
-}
-
-fn key_source(heap: Global, words: &mut Words<'_>) -> Result<KeySource, BadCommand> {
-    if words.takes("--log") {
-        return Ok(KeySource::Logged(log_request(heap, words)?));
-    }
-    Ok(KeySource::Given(given_keys(heap, words)?))
-}
-
-/// The command of these words, which begin after the program's name, and where its keys come from.
-pub fn parse(heap: Global, words: &[String]) -> Result<(Command, KeySource), BadCommand> {
-    let mut words = Words { rest: words };
-    let task = task_of(words.take())?;
-    let profile = profile_of(words.take())?;
-    let keys = key_source(heap, &mut words)?;
-    let input = String::from_str(heap, words.take())?;
-    if input.is_empty() {
-        return Err(BadCommand::Usage(Mistake::NoInput));
-    }
-    let (output, shows_packets) = match task {
-        Task::Rehearse => ("", packets_shown(&mut words)),
-        Task::Scramble | Task::Descramble => (given_output(&mut words)?, false),
-    };
-    if !words.rest.is_empty() {
-        return Err(BadCommand::Usage(Mistake::WordTooMany));
-    }
-    let output = String::from_str(heap, output)?;
-    let command = Command {
-        task,
-        profile,
-        input,
-        output,
-        shows_packets,
-    };
-    Ok((command, keys))
 }
 
 // Whether a rehearsal shows its packets. An empty word in that place says no.
@@ -256,9 +241,80 @@ fn packets_shown(words: &mut Words<'_>) -> bool {
     shown
 }
 
-fn given_output<'a>(words: &mut Words<'a>) -> Result<&'a str, BadCommand> {
-    match words.take() {
-        "" => Err(BadCommand::Usage(Mistake::NoOutput)),
-        output => Ok(output),
+fn given_parity(words: &mut Words<'_>) -> Result<Parity, Mistake> {
+    let text = words.next().ok_or(Mistake::Parity)?;
+    text.parse().map_err(|_| Mistake::Parity)
+}
+
+fn given_pids(heap: Global, list: &str) -> Result<Vec<u16>, BadCommand> {
+    pids_of(heap, list).map_err(|cause| match cause {
+        Cause::NoMemory(error) => BadCommand::NoMemory(error),
+        _ => BadCommand::Usage(Mistake::Pid),
+    })
+}
+
+// Parity, the four groups of the word, PIDs.
+fn given_keys(heap: Global, words: &mut Words<'_>) -> Result<Keys, BadCommand> {
+    let parity = given_parity(words)?;
+    let word = enter_word(words.group(), words.group(), words.group(), words.group())?;
+    let pids = given_pids(heap, words.next().ok_or(Mistake::Pid)?)?;
+    Ok(Keys { parity, word, pids })
+}
+
+fn given_moment(words: &mut Words<'_>) -> Result<Moment, Mistake> {
+    let text = words.next().ok_or(Mistake::Moment)?;
+    moment_of(text).map_err(|_| Mistake::Moment)
+}
+
+// The log's path, and the options that follow it in either order, each once.
+fn log_request(heap: Global, words: &mut Words<'_>) -> Result<LogRequest, BadCommand> {
+    let path = words.path();
+    let mut identifier = None;
+    let mut at = None;
+    for _ in 0..2 {
+        if identifier.is_none() && words.takes("--identifier") {
+            identifier = words.next();
+        } else if at.is_none() && words.takes("--at") {
+            at = Some(given_moment(words)?);
+        }
     }
+    let path = String::from_str(heap, path.ok_or(Mistake::NoLog)?)?;
+    let identifier = match identifier {
+        Some(path) => Some(String::from_str(heap, path)?),
+        None => None,
+    };
+    Ok(LogRequest {
+        path,
+        identifier,
+        at,
+    })
+}
+
+fn key_source(heap: Global, words: &mut Words<'_>) -> Result<KeySource<LogRequest>, BadCommand> {
+    if words.takes("--log") {
+        return Ok(KeySource::Logged(log_request(heap, words)?));
+    }
+    Ok(KeySource::Given(given_keys(heap, words)?))
+}
+
+/// The command of these words, which begin after the program's name, and where its keys come from.
+pub fn parse(
+    heap: Global,
+    words: &[String],
+) -> Result<(Command, KeySource<LogRequest>), BadCommand> {
+    let mut words = Words { rest: words };
+    let verb: Verb = words.next().ok_or(Mistake::Task)?.parse()?;
+    let profile = words.next().ok_or(Mistake::Profile)?.parse()?;
+    let keys = key_source(heap, &mut words)?;
+    let input = Place::named(heap, words.path().ok_or(Mistake::NoInput)?)?;
+    let task = verb.task(heap, &mut words)?;
+    if words.next().is_some() {
+        return Err(BadCommand::Usage(Mistake::WordTooMany));
+    }
+    let command = Command {
+        task,
+        profile,
+        input,
+    };
+    Ok((command, keys))
 }

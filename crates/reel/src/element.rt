@@ -1,25 +1,48 @@
 // What changes the packets of a stream.
-ghost use Rattle.std.specs.Prelude.{◌≡◌, ℕ, List};
-ghost use Rattle.cipher.specs.declared.direction.Direction.TheVariants.{Scramble, Descramble};
+ghost use Rattle.std.specs.Prelude.{◌≡◌};
 ghost use Rattle.engine.specs.Calls.{Batches};
-ghost use Rattle.engine.specs.Model.{Model};
+ghost use Rattle.engine.specs.Model.{Model, model_of};
 
-use engine::EngineFault;
+use batch::Direction;
+use cipher::{Cipher, TailRule};
+use engine::{Engine, EngineFault};
+use shelf::Shelf;
 
 /// An engine whose services are open and hold their words.
 pub trait Element {
     // The engine as its callers see it.
     ghost model: { Self → Model };
 
-    ghost area_length: { Self → ℕ };
-
     /// How long a key area has to be.
-    fn schedule_len(&self) -> usize
-        ensures { result ≡ area_length self.now };
+    fn area_len(&self) -> usize
+        ensures { result ≡ (model self.now).profile.schedule_length };
 
-    fn scramble(&self, area: &mut [u8], batch: &mut [u8]) -> Result<(usize, usize), EngineFault>
-        ensures { Batches Scramble (model self.now) area.old batch.old result area.new batch.new (model self.now) };
+    /// Scrambles or descrambles a batch. Answers how many packets were changed, and how many passed.
+    fn change(
+        &self,
+        direction: Direction,
+        area: &mut [u8],
+        batch: &mut [u8],
+    ) -> Result<(usize, usize), EngineFault>
+        ensures { Batches direction (model self.now) area.old batch.old result area.new batch.new (model self.now) };
+}
 
-    fn descramble(&self, area: &mut [u8], batch: &mut [u8]) -> Result<(usize, usize), EngineFault>
-        ensures { Batches Descramble (model self.now) area.old batch.old result area.new batch.new (model self.now) };
+impl<C: Cipher, T: TailRule, S: Shelf> Element for Engine<C, T, S> {
+    ghost model = { model_of C.Cipher T.TailRule S.Shelf };
+
+    fn area_len(&self) -> usize {
+        C::SCHEDULE
+    }
+
+    fn change(
+        &self,
+        direction: Direction,
+        area: &mut [u8],
+        batch: &mut [u8],
+    ) -> Result<(usize, usize), EngineFault> {
+        match direction {
+            Direction::Scramble => self.scramble(area, batch),
+            Direction::Descramble => self.descramble(area, batch),
+        }
+    }
 }

@@ -3,28 +3,17 @@
 
 mod command;
 mod element;
-mod ends;
-mod given;
 mod logged;
 mod report;
 mod services;
-mod station;
 mod stream;
 mod tally;
+mod task;
 
-use anyhow::anyhow;
-use cipher::{Cipher, Profile, TailRule};
-use command::{BadCommand, Command, KeySource, Keys, ProfileName};
-use logged::KeyRing;
+use command::{BadCommand, Command, KeySource, LogRequest, ProfileName};
 use profile::{cissa_profile, des_profile, idsa_profile};
 use std::env;
-
-/// The words that are to be loaded.
-#[derive(Drop)]
-enum Loads {
-    Given(Keys),
-    Logged(KeyRing),
-}
+use task::Words;
 
 fn main(rt: HostRuntime) -> anyhow::Result<()> {
     run(&rt)
@@ -38,47 +27,38 @@ fn run(rt: &HostRuntime) -> anyhow::Result<()> {
     }
 }
 
-fn carry_out(rt: &HostRuntime, command: &Command, source: KeySource) -> anyhow::Result<()> {
+fn carry_out(
+    rt: &HostRuntime,
+    command: &Command,
+    source: KeySource<LogRequest>,
+) -> anyhow::Result<()> {
     let words = fetch(rt, source)?;
     match command.profile {
-        ProfileName::Cissa => with_words(rt, cissa_profile(), cissa_profile(), command, &words),
-        ProfileName::Idsa => with_words(rt, idsa_profile(), idsa_profile(), command, &words),
-        ProfileName::Des => with_words(rt, des_profile(), des_profile(), command, &words),
+        ProfileName::Cissa => task::carry_out(
+            rt,
+            cissa_profile(),
+            cissa_profile(),
+            command,
+            &words,
+        ),
+        ProfileName::Idsa => task::carry_out(rt, idsa_profile(), idsa_profile(), command, &words),
+        ProfileName::Des => task::carry_out(rt, des_profile(), des_profile(), command, &words),
     }
 }
 
 // Reads what the command names.
-fn fetch(rt: &HostRuntime, source: KeySource) -> anyhow::Result<Loads> {
+fn fetch(rt: &HostRuntime, source: KeySource<LogRequest>) -> anyhow::Result<Words> {
     match source {
-        KeySource::Given(keys) => Ok(Loads::Given(keys)),
-        KeySource::Logged(request) => Ok(Loads::Logged(logged::fetch(rt, &request)?)),
-    }
-}
-
-fn with_words<C: Cipher + Drop, T: TailRule + Drop>(
-    rt: &HostRuntime,
-    near: Profile<C, T>,
-    far: Profile<C, T>,
-    command: &Command,
-    words: &Loads,
-) -> anyhow::Result<()> {
-    match words {
-        Loads::Given(keys) => given::carry_out(rt, near, far, command, keys),
-        Loads::Logged(ring) => logged::carry_out(rt, near, far, command, ring),
+        KeySource::Given(keys) => Ok(KeySource::Given(keys)),
+        KeySource::Logged(request) => Ok(KeySource::Logged(logged::fetch(rt, &request)?)),
     }
 }
 
 fn not_understood(rt: &HostRuntime, bad: BadCommand) -> anyhow::Result<()> {
     match bad {
-        BadCommand::Usage(mistake) => {
-            report::print_usage(rt)?;
-            let text = mistake.text();
-            Err(anyhow!("{text}"))
-        }
-        BadCommand::Word(fault) => {
-            report::print_entry_refusal(rt, &fault)?;
-            Err(anyhow!("the word was refused"))
-        }
-        BadCommand::NoMemory => Err(anyhow!("there is no memory")),
+        BadCommand::Usage(_) => report::print_usage(rt)?,
+        BadCommand::Word(fault) => report::print_entry_refusal(rt, fault)?,
+        BadCommand::NoMemory(_) => {}
     }
+    Err(bad.into())
 }

@@ -1,21 +1,13 @@
 // What the program prints.
-use crate::command::{Command, ProfileName, Task};
+use crate::command::{Command, Task};
 use crate::tally::Tally;
 use batch::BatchFault;
 use engine::EngineFault;
 use entry::EntryFault;
 use fault::Refusal;
-use log_file::LogFault;
-use std::io;
-use std::io::Write;
+use packet::PACKET_LEN;
+use std::{fmt, io};
 use word::Parity;
-
-/// Where the words came from: one from the command line, or so many lines of a log.
-#[derive(Clone, Copy)]
-pub enum Source {
-    Given(Parity),
-    Logged(usize),
-}
 
 /// How the program is called.
 pub fn print_usage(rt: &HostRuntime) -> io::Result<()> {
@@ -40,34 +32,11 @@ fn print_key_usage(rt: &HostRuntime) -> io::Result<()> {
     eprintln!(rt; "  MOMENT   words of the log count up to here, 0 to 4000000000 seconds")
 }
 
-/// A refused word of the command line.
-pub fn print_entry_refusal(rt: &HostRuntime, fault: &EntryFault) -> io::Result<()> {
-    eprintln!(rt; "refused: {}", Refusal::from(*fault))?;
-    eprintln!(rt; "at: {fault}")
-}
-
-/// A refused call of the engine; `done` is how many packets came before a refused batch.
-pub fn print_refusal(rt: &HostRuntime, fault: &EngineFault, done: u64) -> io::Result<()> {
-    let refusal = Refusal::from(*fault);
+/// A refused word or identifier.
+pub fn print_entry_refusal(rt: &HostRuntime, fault: EntryFault) -> io::Result<()> {
+    let refusal = Refusal::from(fault);
     eprintln!(rt; "refused: {refusal}")?;
-    eprintln!(rt; "layer: {}", refusal.layer)?;
-    match fault {
-        EngineFault::Batch(BatchFault::BatchLength { length }) => {
-            let packet = done.saturating_add((*length / 188) as u64);
-            eprintln!(rt; "at: packet {packet}, in which the stream ends")
-        }
-        EngineFault::Batch(_) => {
-            let packet = done.saturating_add(refusal.first);
-            let byte = refusal.second;
-            eprintln!(rt; "at: packet {packet}, byte {byte}")
-        }
-        _ => Ok(()),
-    }
-}
-
-/// A refused line of the log.
-pub fn print_log_fault(rt: &HostRuntime, fault: &LogFault) -> io::Result<()> {
-    eprintln!(rt; "{fault}")
+    eprintln!(rt; "at: {fault}")
 }
 
 /// A file that cannot be read, and why.
@@ -75,98 +44,103 @@ pub fn print_unreadable(rt: &HostRuntime, path: &str, error: &io::Error) -> io::
     eprintln!(rt; "{path}: {error}")
 }
 
-fn profile_name(profile: ProfileName) -> &'static str {
-    match profile {
-        ProfileName::Cissa => "CISSA",
-        ProfileName::Idsa => "IDSA",
-        ProfileName::Des => "DES",
-    }
+/// A refused call of the engine; `done` is how many packets came before a refused batch.
+#[derive(Clone, Copy)]
+pub struct RefusedCall {
+    pub fault: EngineFault,
+    pub done: u64,
 }
 
-fn parity_name(parity: Parity) -> &'static str {
-    match parity {
-        Parity::Even => "even",
-        Parity::Odd => "odd",
-    }
-}
-
-fn task_name(task: Task) -> &'static str {
-    match task {
-        Task::Scramble => "scrambled",
-        Task::Descramble => "descrambled",
-        Task::Rehearse => "rehearsed",
-    }
-}
-
-/// What became of the stream: on standard output, unless the stream itself is there.
-pub fn print_tally(
-    rt: &HostRuntime,
-    command: &Command,
-    source: Source,
-    tally: &Tally,
-) -> io::Result<()> {
-    if command.writes_to_pipe() {
-        return write_tally(&mut rt.stderr(), command, source, tally);
-    }
-    write_tally(&mut rt.stdout(), command, source, tally)
-}
-
-fn write_tally<W: Write>(
-    out: &mut W,
-    command: &Command,
-    source: Source,
-    tally: &Tally,
-) -> io::Result<()> {
-    let task = task_name(command.task);
-    let profile = profile_name(command.profile);
-    write!(out, "{task}: profile {profile}, ")?;
-    write_source(out, source)?;
-    let read = tally.all.read;
-    let changed = tally.all.changed;
-    let passed = tally.all.passed();
-    writeln!(
-        out,
-        "packets: {read} read, {changed} changed, {passed} passed"
-    )?;
-    for (pid, count) in &tally.pids {
-        let read = count.read;
-        let changed = count.changed;
-        let passed = count.passed();
-        writeln!(
-            out,
-            "PID {pid}: {read} read, {changed} changed, {passed} passed"
-        )?;
-    }
-    Ok(())
-}
-
-fn write_source<W: Write>(out: &mut W, source: Source) -> io::Result<()> {
-    match source {
-        Source::Given(parity) => {
-            let parity = parity_name(parity);
-            writeln!(out, "{parity} word")
+impl fmt::Display for RefusedCall {
+    fn fmt<W: fmt::Write>(&self, f: &mut fmt::Formatter<W>) -> fmt::Result {
+        let refusal = Refusal::from(self.fault);
+        let layer = refusal.layer;
+        writeln!(f, "refused: {refusal}")?;
+        writeln!(f, "layer: {layer}")?;
+        match self.fault {
+            EngineFault::Batch(BatchFault::BatchLength { length }) => {
+                let packet = self.done.saturating_add((length / PACKET_LEN) as u64);
+                writeln!(f, "at: packet {packet}, in which the stream ends")
+            }
+            EngineFault::Batch(_) => {
+                let packet = self.done.saturating_add(refusal.first);
+                let byte = refusal.second;
+                writeln!(f, "at: packet {packet}, byte {byte}")
+            }
+            _ => Ok(()),
         }
-        Source::Logged(lines) => writeln!(out, "lines loaded from the log: {lines}"),
+    }
+}
+
+/// Where the words came from: one from the command line, or so many lines of a log.
+#[derive(Clone, Copy)]
+pub enum Source {
+    Given(Parity),
+    Logged(usize),
+}
+
+impl fmt::Display for Source {
+    fn fmt<W: fmt::Write>(&self, f: &mut fmt::Formatter<W>) -> fmt::Result {
+        match self {
+            Source::Given(parity) => write!(f, "{parity} word"),
+            Source::Logged(lines) => write!(f, "lines loaded from the log: {lines}"),
+        }
+    }
+}
+
+/// What became of a stream that was taken to its end.
+#[derive(Clone, Copy)]
+pub struct Report<'a> {
+    pub command: &'a Command,
+    pub source: Source,
+    pub tally: &'a Tally,
+}
+
+impl fmt::Display for Report<'_> {
+    fn fmt<W: fmt::Write>(&self, f: &mut fmt::Formatter<W>) -> fmt::Result {
+        let task = &self.command.task;
+        let profile = self.command.profile;
+        let source = self.source;
+        let all = self.tally.all;
+        writeln!(f, "{task}: profile {profile}, {source}")?;
+        writeln!(f, "packets: {all}")?;
+        for (pid, count) in &self.tally.pids {
+            writeln!(f, "PID {pid}: {count}")?;
+        }
+        match self.command.task {
+            Task::Rehearse { .. } => writeln!(f, "every packet came back byte for byte"),
+            Task::Convert { .. } => Ok(()),
+        }
     }
 }
 
 /// A packet in hexadecimal, sixteen bytes to a line.
-pub fn print_packet(rt: &HostRuntime, number: u64, packet: &[u8]) -> io::Result<()> {
-    println!(rt; "packet {number}:")?;
-    for line in packet.chunks(16) {
-        print_line(rt, line)?;
-    }
-    Ok(())
+#[derive(Clone, Copy)]
+pub struct Dump<'a> {
+    pub number: u64,
+    pub packet: &'a [u8],
 }
 
-fn print_line(rt: &HostRuntime, line: &[u8]) -> io::Result<()> {
-    for byte in line {
-        print!(rt; " {byte:02x}")?;
+impl fmt::Display for Dump<'_> {
+    fn fmt<W: fmt::Write>(&self, f: &mut fmt::Formatter<W>) -> fmt::Result {
+        let number = self.number;
+        writeln!(f, "packet {number}:")?;
+        for line in self.packet.chunks(16) {
+            let line = DumpLine(line);
+            writeln!(f, "{line}")?;
+        }
+        Ok(())
     }
-    println!(rt; "")
 }
 
-/// A sign of life of a long run.
-pub fn print_progress(rt: &HostRuntime, packets: u64) -> io::Result<()> {
-    eprintln!(rt; "{packets} packets")
+#[derive(Clone, Copy)]
+struct DumpLine<'a>(&'a [u8]);
+
+impl fmt::Display for DumpLine<'_> {
+    fn fmt<W: fmt::Write>(&self, f: &mut fmt::Formatter<W>) -> fmt::Result {
+        for byte in self.0 {
+            write!(f, " {byte:02x}")?;
+        }
+        Ok(())
+    }
 }

@@ -1,281 +1,251 @@
 // A stream, in batches of 64 packets, so that memory does not grow with it.
-ghost use Rattle.std.specs.Prelude.{◌≤◌, length, IfOk};
-
-use crate::command::{Command, Task};
+use crate::command::{Command, Place};
 use crate::element::Element;
-use crate::ends::{Destination, Origin};
 use crate::report;
-use crate::report::Source;
+use crate::report::{Dump, RefusedCall, Report, Source};
 use crate::tally::Tally;
 use anyhow::anyhow;
+use batch::{Direction, MAX_BATCH_LEN};
 use engine::EngineFault;
+use packet::PACKET_LEN;
 use std::fs::File;
 use std::io;
-use std::io::Read;
+use std::io::{Read, Write};
 use std::rt::Files;
-
-/// 64 packets.
-const BATCH: usize = 12032;
 
 // After so many packets a line on standard error says how far the run is.
 const PROGRESS: u64 = 1 << 20;
 
-/// Scrambles or descrambles a stream.
-pub fn convert<E: Element>(
-    rt: &HostRuntime,
-    element: &E,
-    command: &Command,
-    source: Source,
-) -> anyhow::Result<()> {
-    let tally = if command.writes_to_pipe() {
-        convert_into(
-            rt,
-            element,
-            command,
-            &mut Destination::Standard(rt.stdout()),
-        )?
-    } else {
-        convert_safely(rt, element, command)?
-    };
-    report::print_tally(rt, command, source, &tally)?;
-    Ok(())
-}
-
-/// Scrambles a stream in memory at one element, brings it back at the other and compares every byte.
-pub fn work_back<E: Element>(
-    rt: &HostRuntime,
-    near: &E,
-    far: &E,
-    command: &Command,
-    source: Source,
-) -> anyhow::Result<()> {
-    let tally = work_through(rt, near, far, command, &mut Destination::Nowhere)?;
-    report::print_tally(rt, command, source, &tally)?;
-    println!(rt; "every packet came back byte for byte")?;
-    Ok(())
-}
-
-/// A refusal is printed whole; what is left to say is short.
-pub fn refused(
-    rt: &HostRuntime,
-    command: &Command,
-    fault: &EngineFault,
+/// A task on its way through a stream.
+#[derive(Drop)]
+pub struct Run<'a> {
+    rt: &'a HostRuntime,
+    command: &'a Command,
+    tally: Tally,
+    // The packets of the batches before this one.
     done: u64,
-) -> anyhow::Error {
-    match report::print_refusal(rt, fault, done) {
-        Ok(()) if command.writes_to_pipe() && done > 0 => {
-            anyhow!("the stream was refused, and the packets before are written")
+}
+
+impl<'a> Run<'a> {
+    pub fn new(rt: &'a HostRuntime, command: &'a Command) -> Run<'a> {
+        Run {
+            rt,
+            command,
+            tally: Tally::new(rt.alloc()),
+            done: 0,
         }
-        Ok(()) => anyhow!("the stream was refused, and nothing was written"),
-        Err(error) => error.into(),
+    }
+
+    /// Scrambles or descrambles the stream.
+    pub fn convert<E: Element>(
+        &mut self,
+        element: &E,
+        direction: Direction,
+        output: &Place,
+    ) -> anyhow::Result<()> {
+        match output {
+            Place::Standard => self.convert_into(element, direction, &mut self.rt.stdout()),
+            Place::File(path) => self.convert_safely(element, direction, path.as_str()),
+        }
+    }
+
+    /// Scrambles the stream in memory at one element, brings it back at the other and compares every byte.
+    pub fn rehearse<E: Element>(
+        &mut self,
+        near: &E,
+        far: &E,
+        shows_packets: bool,
+    ) -> anyhow::Result<()> {
+        self.through(|run, batch| run.rehearse_batch(near, far, shows_packets, batch))
+    }
+
+    /// Says what became of the stream: on standard output, unless the stream itself is there.
+    pub fn report(&self, source: Source) -> io::Result<()> {
+        let report = Report {
+            command: self.command,
+            source,
+            tally: &self.tally,
+        };
+        if self.command.writes_to_pipe() {
+            return eprint!(self.rt; "{report}");
+        }
+        print!(self.rt; "{report}")
+    }
+
+    /// A refusal is printed whole; what is left to say is short.
+    pub fn refused(&self, fault: EngineFault) -> anyhow::Error {
+        let done = self.done;
+        let refused = RefusedCall { fault, done };
+        match eprint!(self.rt; "{refused}") {
+            Ok(()) if self.command.writes_to_pipe() && done > 0 => {
+                anyhow!("the stream was refused, and the packets before are written")
+            }
+            Ok(()) => anyhow!("the stream was refused, and nothing was written"),
+            Err(error) => error.into(),
+        }
+    }
+
+    // Writes the changed stream beside the output, and gives it its name once all of it is there.
+    fn convert_safely<E: Element>(
+        &mut self,
+        element: &E,
+        direction: Direction,
+        output: &str,
+    ) -> anyhow::Result<()> {
+        let rt = self.rt;
+        let part = format!(in rt.alloc(); "{output}.part")?;
+        match self.convert_to_file(element, direction, part.as_str()) {
+            Ok(()) => {
+                rt.rename(part.as_str(), output)?;
+                Ok(())
+            }
+            Err(error) => {
+                let _ = rt.remove_file(part.as_str());
+                Err(error)
+            }
+        }
+    }
+
+    fn convert_to_file<E: Element>(
+        &mut self,
+        element: &E,
+        direction: Direction,
+        part: &str,
+    ) -> anyhow::Result<()> {
+        let mut file = File::create(self.rt, part)?;
+        self.convert_into(element, direction, &mut file)
+    }
+
+    fn convert_into<E: Element, W: Write>(
+        &mut self,
+        element: &E,
+        direction: Direction,
+        output: &mut W,
+    ) -> anyhow::Result<()> {
+        self.through(|run, batch| run.convert_batch(element, direction, output, batch))?;
+        output.flush()?;
+        Ok(())
+    }
+
+    // Does the work on each batch of the stream. One that holds no packet is refused: it is no recording.
+    fn through<F>(&mut self, work: F) -> anyhow::Result<()>
+    where
+        F: FnMut(&mut Run<'a>, &mut [u8]) -> anyhow::Result<()> + Drop,
+        requires { F.IsAlwaysCallable work }
+    {
+        match &self.command.input {
+            Place::Standard => self.each_batch(&mut self.rt.stdin(), work)?,
+            Place::File(path) => self.each_batch(&mut opened(self.rt, path.as_str())?, work)?,
+        }
+        if self.done == 0 {
+            return Err(anyhow!("the stream is empty"));
+        }
+        Ok(())
+    }
+
+    // A pipe gives a few bytes at a time: a batch is there once it is full or the input ends.
+    fn each_batch<R: Read, F>(&mut self, input: &mut R, mut work: F) -> anyhow::Result<()>
+    where
+        F: FnMut(&mut Run<'a>, &mut [u8]) -> anyhow::Result<()> + Drop,
+        requires { F.IsAlwaysCallable work }
+    {
+        let mut batch = Vec::with_capacity(self.rt.alloc(), MAX_BATCH_LEN)?;
+        for _ in 0..u64::MAX {
+            batch.clear();
+            input
+                .by_ref()
+                .take(MAX_BATCH_LEN as u64)
+                .read_to_end(&mut batch)?;
+            if batch.is_empty() {
+                break;
+            }
+            work(self, batch.as_mut_slice())?;
+            self.advance()?;
+        }
+        Ok(())
+    }
+
+    // A batch is done. Shows progress each time another million packets or so are.
+    fn advance(&mut self) -> io::Result<()> {
+        let before = self.done;
+        let done = self.tally.all.read;
+        self.done = done;
+        if before / PROGRESS < done / PROGRESS {
+            return eprintln!(self.rt; "{done} packets");
+        }
+        Ok(())
+    }
+
+    // Scrambles or descrambles a batch in place, with a key area of its own.
+    fn change<E: Element>(
+        &self,
+        element: &E,
+        direction: Direction,
+        batch: &mut [u8],
+    ) -> anyhow::Result<()> {
+        let mut area = vec![in self.rt.alloc(); 0; element.area_len()]?;
+        match element.change(direction, area.as_mut_slice(), batch) {
+            Ok(_) => Ok(()),
+            Err(fault) => Err(self.refused(fault)),
+        }
+    }
+
+    fn convert_batch<E: Element, W: Write>(
+        &mut self,
+        element: &E,
+        direction: Direction,
+        output: &mut W,
+        batch: &mut [u8],
+    ) -> anyhow::Result<()> {
+        let before = batch.to_vec(self.rt.alloc())?;
+        self.change(element, direction, batch)?;
+        output.write_all(batch)?;
+        self.tally.add(before.as_slice(), batch)?;
+        Ok(())
+    }
+
+    // Scrambles a batch in memory, brings it back at the other element and compares every byte.
+    fn rehearse_batch<E: Element>(
+        &mut self,
+        near: &E,
+        far: &E,
+        shows_packets: bool,
+        batch: &mut [u8],
+    ) -> anyhow::Result<()> {
+        let clear = batch.to_vec(self.rt.alloc())?;
+        self.change(near, Direction::Scramble, batch)?;
+        self.tally.add(clear.as_slice(), batch)?;
+        if shows_packets {
+            self.show_changed(clear.as_slice(), batch)?;
+        }
+        self.change(far, Direction::Descramble, batch)?;
+        if clear.as_slice() != &*batch {
+            return Err(anyhow!("a packet did not come back"));
+        }
+        Ok(())
+    }
+
+    // Prints the packets that differ.
+    fn show_changed(&self, before: &[u8], after: &[u8]) -> io::Result<()> {
+        let packets = before.chunks(PACKET_LEN).zip(after.chunks(PACKET_LEN));
+        for (index, (was, packet)) in packets.enumerate() {
+            if was != packet {
+                let number = self.done.saturating_add(index as u64);
+                let dump = Dump { number, packet };
+                print!(self.rt; "{dump}")?;
+            }
+        }
+        Ok(())
     }
 }
 
 // Opens the stream, or says why that cannot be.
-fn open_input(rt: &HostRuntime, path: &str) -> anyhow::Result<Origin> {
-    match Origin::open(rt, path) {
-        Ok(origin) => Ok(origin),
+fn opened(rt: &HostRuntime, path: &str) -> anyhow::Result<File> {
+    match File::open(rt, path) {
+        Ok(file) => Ok(file),
         Err(error) => {
             report::print_unreadable(rt, path, &error)?;
             Err(anyhow!("the stream cannot be opened"))
         }
     }
-}
-
-// Reads until the buffer is full or the input ends, and answers how many bytes came.
-// A pipe gives a few bytes at a time.
-fn fill(input: &mut Origin, buffer: &mut [u8]) -> io::Result<usize>
-    ensures { IfOk result (λ n. n ≤ length buffer.old) }
-{
-    let mut filled = 0;
-    while filled < buffer.len() {
-        let n = input.read(&mut buffer[filled..])?;
-        if n == 0 {
-            break;
-        }
-        filled += n;
-    }
-    Ok(filled)
-}
-
-// Shows progress each time another million packets or so are done.
-fn progress(rt: &HostRuntime, before: u64, after: u64) -> io::Result<()> {
-    if before / PROGRESS < after / PROGRESS {
-        return report::print_progress(rt, after);
-    }
-    Ok(())
-}
-
-// Writes the changed stream beside the output, and gives it its name once all of it is there.
-fn convert_safely<E: Element>(
-    rt: &HostRuntime,
-    element: &E,
-    command: &Command,
-) -> anyhow::Result<Tally> {
-    let output = command.output.as_str();
-    let part = format!(in rt.alloc(); "{output}.part")?;
-    match convert_to_file(rt, element, command, part.as_str()) {
-        Ok(tally) => {
-            rt.rename(part.as_str(), output)?;
-            Ok(tally)
-        }
-        Err(error) => {
-            let _ = rt.remove_file(part.as_str());
-            Err(error)
-        }
-    }
-}
-
-fn convert_to_file<E: Element>(
-    rt: &HostRuntime,
-    element: &E,
-    command: &Command,
-    part: &str,
-) -> anyhow::Result<Tally> {
-    let mut destination = Destination::Into(File::create(rt, part)?);
-    convert_into(rt, element, command, &mut destination)
-}
-
-fn convert_into<E: Element>(
-    rt: &HostRuntime,
-    element: &E,
-    command: &Command,
-    destination: &mut Destination,
-) -> anyhow::Result<Tally> {
-    let tally = work_through(rt, element, element, command, destination)?;
-    destination.flush()?;
-    Ok(tally)
-}
-
-// Takes the stream batch by batch. One that holds no packet is refused: it is no recording.
-fn work_through<E: Element>(
-    rt: &HostRuntime,
-    near: &E,
-    far: &E,
-    command: &Command,
-    destination: &mut Destination,
-) -> anyhow::Result<Tally> {
-    let mut input = open_input(rt, command.input.as_str())?;
-    let mut tally = Tally::new(rt.alloc());
-    let mut buffer = [0; BATCH];
-    each_batch(
-        rt,
-        near,
-        far,
-        command,
-        &mut input,
-        destination,
-        &mut buffer,
-        &mut tally,
-    )?;
-    if tally.all.read == 0 {
-        return Err(anyhow!("the stream is empty"));
-    }
-    Ok(tally)
-}
-
-fn each_batch<E: Element>(
-    rt: &HostRuntime,
-    near: &E,
-    far: &E,
-    command: &Command,
-    input: &mut Origin,
-    destination: &mut Destination,
-    buffer: &mut [u8],
-    tally: &mut Tally,
-) -> anyhow::Result<()> {
-    for _ in 0..u64::MAX {
-        let n = fill(input, buffer)?;
-        if n == 0 {
-            break;
-        }
-        let done = tally.all.read;
-        match command.task {
-            Task::Rehearse => rehearse_batch(rt, near, far, command, &mut buffer[0..n], tally)?,
-            Task::Scramble | Task::Descramble => convert_batch(
-                rt,
-                near,
-                command,
-                &mut buffer[0..n],
-                destination,
-                tally,
-            )?,
-        }
-        progress(rt, done, tally.all.read)?;
-    }
-    Ok(())
-}
-
-// Scrambles or descrambles a batch in place, with a key area of its own.
-fn change_batch<E: Element>(
-    rt: &HostRuntime,
-    element: &E,
-    command: &Command,
-    task: Task,
-    batch: &mut [u8],
-    done: u64,
-) -> anyhow::Result<()> {
-    let mut area = vec![in rt.alloc(); 0; element.schedule_len()]?;
-    let answer = match task {
-        Task::Scramble | Task::Rehearse => element.scramble(area.as_mut_slice(), batch),
-        Task::Descramble => element.descramble(area.as_mut_slice(), batch),
-    };
-    match answer {
-        Ok(_) => Ok(()),
-        Err(fault) => Err(refused(rt, command, &fault, done)),
-    }
-}
-
-fn convert_batch<E: Element>(
-    rt: &HostRuntime,
-    element: &E,
-    command: &Command,
-    batch: &mut [u8],
-    destination: &mut Destination,
-    tally: &mut Tally,
-) -> anyhow::Result<()> {
-    let before = batch.to_vec(rt.alloc())?;
-    change_batch(rt, element, command, command.task, batch, tally.all.read)?;
-    destination.put(batch)?;
-    tally.add(before.as_slice(), batch)?;
-    Ok(())
-}
-
-// Scrambles a batch in memory, brings it back at the other engine and compares every byte.
-fn rehearse_batch<E: Element>(
-    rt: &HostRuntime,
-    near: &E,
-    far: &E,
-    command: &Command,
-    batch: &mut [u8],
-    tally: &mut Tally,
-) -> anyhow::Result<()> {
-    let clear = batch.to_vec(rt.alloc())?;
-    let done = tally.all.read;
-    change_batch(rt, near, command, Task::Scramble, batch, done)?;
-    tally.add(clear.as_slice(), batch)?;
-    if command.shows_packets {
-        show_changed(rt, clear.as_slice(), batch, done)?;
-    }
-    change_batch(rt, far, command, Task::Descramble, batch, done)?;
-    if !same_bytes(clear.as_slice(), batch) {
-        return Err(anyhow!("a packet did not come back"));
-    }
-    Ok(())
-}
-
-fn same_bytes(one: &[u8], other: &[u8]) -> bool {
-    one == other
-}
-
-// Prints the packets that differ.
-fn show_changed(rt: &HostRuntime, before: &[u8], after: &[u8], done: u64) -> io::Result<()> {
-    let mut number = done;
-    for (was, is) in before.chunks(188).zip(after.chunks(188)) {
-        if was != is {
-            report::print_packet(rt, number, is)?;
-        }
-        number = number.saturating_add(1);
-    }
-    Ok(())
 }

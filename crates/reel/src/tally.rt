@@ -1,32 +1,28 @@
 // How many packets were read, changed and passed, in all and for each PID.
-use packet::Header;
+use packet::{Header, PACKET_LEN};
 use std::alloc::{AllocError, Global};
 use std::collections::BTreeMap;
+use std::fmt;
 
 /// The packets of one PID, or of a whole stream.
-#[derive(Clone, Copy)]
+#[derive(Clone, Copy, Default)]
 pub struct Count {
     pub read: u64,
-    pub changed: u64,
+    changed: u64,
 }
 
 impl Count {
-    fn zero() -> Count {
-        Count {
-            read: 0,
-            changed: 0,
-        }
-    }
-
     fn add(&mut self, changed: bool) {
         self.read = self.read.saturating_add(1);
-        if changed {
-            self.changed = self.changed.saturating_add(1);
-        }
+        self.changed = self.changed.saturating_add(u64::from(changed));
     }
+}
 
-    pub fn passed(&self) -> u64 {
-        self.read.saturating_sub(self.changed)
+impl fmt::Display for Count {
+    fn fmt<W: fmt::Write>(&self, f: &mut fmt::Formatter<W>) -> fmt::Result {
+        let Count { read, changed } = *self;
+        let passed = read.saturating_sub(changed);
+        write!(f, "{read} read, {changed} changed, {passed} passed")
     }
 }
 
@@ -39,39 +35,31 @@ pub struct Tally {
 impl Tally {
     pub fn new(heap: Global) -> Tally {
         Tally {
-            all: Count::zero(),
+            all: Count::default(),
             pids: BTreeMap::new(heap),
         }
     }
 
     /// Counts the packets of a batch, from their control bits before and after: those of a changed packet differ.
     pub fn add(&mut self, before: &[u8], after: &[u8]) -> Result<(), AllocError> {
-        for packet in 0..after.len() / 188 {
-            let Some(was) = header_at(before, packet) else {
-                break;
-            };
-            let Some(is) = header_at(after, packet) else {
-                break;
-            };
-            self.note(was.pid, was.control.bits() != is.control.bits())?;
+        let (before, _) = before.as_chunks::<PACKET_LEN>();
+        let (after, _) = after.as_chunks::<PACKET_LEN>();
+        for (was, is) in before.iter().zip(after) {
+            let was = header_of(was);
+            self.note(was.pid, was.control != header_of(is).control)?;
         }
         Ok(())
     }
 
     fn note(&mut self, pid: u16, changed: bool) -> Result<(), AllocError> {
         self.all.add(changed);
-        let count = self.pids.entry(pid)?.or_insert(Count::zero());
+        let count = self.pids.entry(pid)?.or_insert(Count::default());
         count.add(changed);
         Ok(())
     }
 }
 
-// The header of a packet of a batch, if it is there.
-fn header_at(batch: &[u8], packet: usize) -> Option<Header> {
-    let at = packet.checked_mul(188)?;
-    let rest = batch.get(at..)?;
-    let [a, b, c, d, e, ..] = rest else {
-        return None;
-    };
-    Some(Header::from_bytes([*a, *b, *c, *d, *e]))
+fn header_of(packet: &[u8; PACKET_LEN]) -> Header {
+    let [a, b, c, d, e, ..] = *packet;
+    Header::from_bytes([a, b, c, d, e])
 }

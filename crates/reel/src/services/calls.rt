@@ -1,42 +1,43 @@
-ghost use Rattle.std.specs.Prelude.{◌≡◌, ℕ, true};
-ghost use Rattle.engine.specs.Calls.{Joins, Loads, Picks};
-ghost use Rattle.engine.specs.Model.{slots_of, model_of};
+ghost use Rattle.std.specs.Prelude.{◌≡◌, ℕ, ◌<◌, true, [], ◌∷◌, ◌++◌, vec_len, vec_capacity};
+ghost use Rattle.engine.specs.Calls.{Makes, Joins, Loads, Picks};
+ghost use Rattle.engine.specs.Model.{is_open, slots_of, model_of, given_of};
 ghost use Rattle.engine.specs.Onward.{onward_of};
 ghost use Rattle.shelf.specs.Onward.{after_put};
 ghost use Rattle.reel.specs.Held.{accepted, without};
+ghost use Rattle.reel.specs.Opening.{OpensHeld};
 
-use crate::element::Element;
 use crate::services::{Services, ServicesFault};
-use crate::station::TAG;
 use cipher::{Cipher, Profile, TailRule};
 use engine::{Engine, EngineFault, Grant, Unclosed};
 use shelf::Shelf;
-use std::alloc::{AllocFailed as Refused, Global};
+use std::alloc::{AllocFailed, Global};
 use word::Parity;
+
+/// The program's engines need no tags to be told apart.
+pub const TAG: u16 = 1;
 
 impl<C: Cipher, T: TailRule, S: Shelf> Services<C, T, S> {
     /// An engine under a profile, over a shelf, with no service open.
-    pub fn new(heap: Global, profile: Profile<C, T>, shelf: S) -> Services<C, T, S> {
-        let schedule_len = C::SCHEDULE;
+    pub fn new(heap: Global, profile: Profile<C, T>, shelf: S) -> Services<C, T, S>
+        ensures makes { Makes (given_of C.Cipher T.TailRule S.Shelf profile.cipher profile.tail profile.iv shelf TAG) (model_of C.Cipher T.TailRule S.Shelf result.engine) }
+        ensures later { onward_of S.Shelf result.engine ≡ S.Shelf.next_after shelf }
+    {
         let Profile { cipher, tail, iv } = profile;
         Services {
             engine: Engine::make(cipher, tail, iv, shelf, TAG),
-            schedule_len,
             grants: Vec::new(heap),
         }
     }
 
-    /// Opens a service, whose grant is kept.
-    pub fn open(&mut self, service: u8) -> Result<(), ServicesFault> {
+    /// Opens a service, whose grant is kept. There is room for the grant before the service opens.
+    pub fn open(&mut self, service: u8) -> Result<(), ServicesFault>
+        ensures does { OpensHeld (model_of C.Cipher T.TailRule S.Shelf self.old.engine) service result (model_of C.Cipher T.TailRule S.Shelf self.new.engine) }
+        ensures later { onward_of S.Shelf self.new.engine ≡ onward_of S.Shelf self.old.engine }
+    {
+        self.grants.reserve(1)?;
         let grant = self.engine.open(service)?;
-        match self.grants.push(grant) {
-            Ok(()) => Ok(()),
-            Err(refused) => {
-                let Refused { value } = refused;
-                close(&mut self.engine, value);
-                Err(ServicesFault::NoMemory)
-            }
-        }
+        keep(&mut self.grants, grant);
+        Ok(())
     }
 
     // The three calls that give no grant are the engine's own.
@@ -67,23 +68,31 @@ impl<C: Cipher, T: TailRule, S: Shelf> Services<C, T, S> {
     {
         self.engine.pick(service, parity)
     }
-}
 
-impl<C: Cipher, T: TailRule, S: Shelf> Element for Services<C, T, S> {
-    ghost model = { λ s. model_of C.Cipher T.TailRule S.Shelf s.engine };
-
-    ghost area_length = { λ s. s.schedule_len };
-
-    fn schedule_len(&self) -> usize {
-        self.schedule_len
+    /// Loads a word of a service, and has the service scramble under it. Whatever is refused, what is open stays open.
+    pub fn load_and_pick(
+        &mut self,
+        service: u8,
+        parity: Parity,
+        entry: &[u8; 16],
+        moment: u32,
+    ) -> Result<(), EngineFault>
+        ensures tag { self.new.engine.tag ≡ self.old.engine.tag }
+        ensures stays { (k : ℕ) → is_open (slots_of self.old.engine.desk k) ≡ true → is_open (slots_of self.new.engine.desk k) ≡ true }
+    {
+        self.load(service, parity, entry, moment)?;
+        self.pick(service, parity)
     }
 
-    fn scramble(&self, area: &mut [u8], batch: &mut [u8]) -> Result<(usize, usize), EngineFault> {
-        self.engine.scramble(area, batch)
-    }
-
-    fn descramble(&self, area: &mut [u8], batch: &mut [u8]) -> Result<(usize, usize), EngineFault> {
-        self.engine.descramble(area, batch)
+    /// Joins PIDs to a service. Whatever is refused, what is open stays open.
+    pub fn join_all(&mut self, service: u8, pids: &[u16]) -> Result<(), EngineFault>
+        ensures tag { self.new.engine.tag ≡ self.old.engine.tag }
+        ensures stays { (k : ℕ) → is_open (slots_of self.old.engine.desk k) ≡ true → is_open (slots_of self.new.engine.desk k) ≡ true }
+    {
+        for pid in pids {
+            self.join(service, *pid)?;
+        }
+        Ok(())
     }
 }
 
@@ -92,13 +101,26 @@ impl<C: Cipher + Drop, T: TailRule + Drop, S: Shelf + Drop> Services<C, T, S> {
     pub fn finish(self) {
         let Services {
             mut engine,
-            schedule_len: _,
             mut grants,
         } = self;
         while let Some(grant) = grants.pop() {
             close(&mut engine, grant);
         }
         grants.destroy_empty();
+    }
+}
+
+// Puts a grant where there is room for it.
+fn keep(grants: &mut Vec<Grant>, grant: Grant)
+    requires { vec_len grants.old < vec_capacity grants.old }
+    ensures { grants.new.items ≡ grants.old.items ++ grant ∷ [] }
+{
+    match grants.push(grant) {
+        Ok(()) => {}
+        Err(failed) => {
+            let AllocFailed { value: _grant } = failed;
+            unreachable()
+        }
     }
 }
 
