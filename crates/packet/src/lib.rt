@@ -5,4 +5,6 @@ mod faults;
 mod header;
 
 pub use faults::{HeaderFault, PacketFault};
-pub use header::{AdaptationControl, Header, PACKET_LEN, SYNC_BYTE, ScramblingControl, set_control};
+pub use header::{
+    AdaptationControl, Header, PACKET_LEN, SYNC_BYTE, ScramblingControl, set_control,
+};

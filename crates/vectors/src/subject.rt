@@ -94,13 +94,7 @@ impl<C: Cipher, T: TailRule> Subject for Packet<'_, C, T> {
         };
         let mut room = [0; LONGEST_SCHEDULE];
         let area = &mut room[0..C::SCHEDULE];
-        one_changed(batch::process(
-            direction,
-            self.profile,
-            &keys,
-            area,
-            bytes,
-        ))
+        one_changed(batch::process(direction, self.profile, &keys, area, bytes))
     }
 }
 

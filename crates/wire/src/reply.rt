@@ -2,8 +2,8 @@ ghost use Rattle.std.specs.Prelude.{◌≡◌, ◌+◌, ◌/◌, ◌%◌, [], �
 ghost use Rattle.wire.specs.Replies.{number_of, answer_tag, carries_batch, written};
 
 use crate::faults::ProgramFault;
-use fault::Refusal;
 use crate::request::Tag;
+use fault::Refusal;
 use std::alloc::AllocError;
 
 /// What is answered to a field.
