@@ -1,31 +1,33 @@
--- One step of a comparison: equal bytes go on, others stop, and the ends answer.
-use Rattle.std.proofs.Common.{◌≡◌, ℕ, ◌+◌, ◌<◌, ◌≤◌, min, Bool, cond, eqb, List, length, get_or, drop, Some, None, ap, ◌∙◌, ⊎_elim, arith, eq-eqb, ne_eqb}
-use Rattle.std.proofs.lemmas.List.{drop_more, drop_all}
-use Rattle.std.proofs.lemmas.Bool.{cases_order}
+-- Where two lists differ: at the first unequal pair, else where the shorter ends.
+use Rattle.std.proofs.Common.{◌≡◌, ℕ, suc, ◌+◌, min, Bool, true, false, not, cond, eqb, List, [], ◌∷◌, length, Some, None, Option, sym, refl, ap, ◌∙◌, arith}
+use Rattle.std.proofs.Math.Dec.{eqb-zero-suc, eqb-suc-zero, eqb-suc-suc}
+use Rattle.std.specs.Bool.{then_some}
+use Rattle.std.specs.List.{position_from, zip}
+use Rattle.std.specs.Option.{option_or}
 use Rattle.vectors.specs.Vectors.{differs_from}
 
-module _ (xs ys : List ℕ) (i : ℕ) where
-  step : i < length xs → i < length ys
-      → differs_from i (drop i xs) (drop i ys) ≡ cond (eqb (get_or xs i 0) (get_or ys i 0)) (differs_from (i + 1) (drop (i + 1) xs) (drop (i + 1) ys)) (Some i)
-  step h k = rw (drop_more xs i 0 h, drop_more ys i 0 k)
+abbrev pub unequal : ℕ × ℕ → Bool
+unequal p = not (eqb p.0 p.1)
 
-  pub goes_on : i < length xs → i < length ys → get_or xs i 0 ≡ get_or ys i 0
-      → differs_from i (drop i xs) (drop i ys) ≡ differs_from (i + 1) (drop (i + 1) xs) (drop (i + 1) ys)
-  goes_on h k e =
-      step h k ∙ ap (λ (b : Bool). cond b (differs_from (i + 1) (drop (i + 1) xs) (drop (i + 1) ys)) (Some i)) (eq-eqb _ _ e)
+-- one step: equal bytes go on, others stop here
+step : (i : ℕ) (b : Bool) (d p e : Option ℕ) → d ≡ option_or p e → cond b d (Some i) ≡ option_or (cond (not b) (Some i) p) e
+step i true d p e same = same
+step i false d p e same = refl
 
-  pub stops : i < length xs → i < length ys → (get_or xs i 0 ≡ get_or ys i 0 → ⊥)
-      → differs_from i (drop i xs) (drop i ys) ≡ Some i
-  stops h k ne =
-      step h k ∙ ap (λ (b : Bool). cond b (differs_from (i + 1) (drop (i + 1) xs) (drop (i + 1) ys)) (Some i)) (ne_eqb _ _ ne)
-
-  pub both_end : length xs ≤ i → length ys ≤ i → differs_from i (drop i xs) (drop i ys) ≡ None
-  both_end h k = rw (drop_all i xs h, drop_all i ys k)
-
-  pub one_ends : (length xs ≡ length ys → ⊥) → i ≡ min (length xs) (length ys) → differs_from i (drop i xs) (drop i ys) ≡ Some i
-  one_ends ne e =
-      let shorter : length xs < length ys → differs_from i (drop i xs) (drop i ys) ≡ Some i = λ lt.
-      let h : length xs ≤ i = omega arith in let k : i < length ys = omega arith in rw (drop_all i xs h, drop_more ys i 0 k) in
-      let longer : length ys < length xs → differs_from i (drop i xs) (drop i ys) ≡ Some i = λ lt.
-      let h : i < length xs = omega arith in let k : length ys ≤ i = omega arith in rw (drop_more xs i 0 h, drop_all i ys k) in
-      ⊎_elim (λ q. absurd (ne q)) (⊎_elim shorter longer) (cases_order (length xs) (length ys))
+pub differs_by_pairs : (i : ℕ) (xs ys : List ℕ)
+    → differs_from i xs ys ≡ option_or (position_from unequal i (zip xs ys)) (then_some (not (eqb (length xs) (length ys))) (i + min (length xs) (length ys)))
+differs_by_pairs i [] [] = refl
+differs_by_pairs i [] (y ∷ ys) =
+    let end : i ≡ i + min 0 (length (y ∷ ys)) = omega arith in
+    ap Some end ∙ ap (λ (b : Bool). then_some (not b) (i + min 0 (length (y ∷ ys)))) (sym (eqb-zero-suc (length ys)))
+differs_by_pairs i (x ∷ xs) [] =
+    let end : i ≡ i + min (length (x ∷ xs)) 0 = omega arith in
+    ap Some end ∙ ap (λ (b : Bool). then_some (not b) (i + min (length (x ∷ xs)) 0)) (sym (eqb-suc-zero (length xs)))
+differs_by_pairs i (x ∷ xs) (y ∷ ys) =
+    let n = i + min (length (x ∷ xs)) (length (y ∷ ys)) in
+    let end : i + 1 + min (length xs) (length ys) ≡ n = omega arith in
+    let pairs = position_from unequal (i + 1) (zip xs ys) in
+    step i (eqb x y) (differs_from (i + 1) xs ys) pairs (then_some (not (eqb (length (x ∷ xs)) (length (y ∷ ys)))) n)
+    (differs_by_pairs (i + 1) xs ys
+    ∙ ap (λ (k : ℕ). option_or pairs (then_some (not (eqb (length xs) (length ys))) k)) end
+    ∙ ap (λ (b : Bool). option_or pairs (then_some (not b) n)) (sym (eqb-suc-suc (length xs) (length ys))))

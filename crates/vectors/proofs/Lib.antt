@@ -1,2 +1,2 @@
-mod Differences
-mod Spelling
+pub mod Differences
+pub mod Spelling

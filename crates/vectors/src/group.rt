@@ -11,6 +11,7 @@ use std::io;
 pub struct Group {
     name: String,
     cases: u64,
+    // A count by name for each direction: `finish` prints each under its name, so a pair by `Direction` is no plainer.
     scrambled: u64,
     descrambled: u64,
 }

@@ -2,7 +2,7 @@
 ghost use Rattle.std.specs.Prelude.{◌≡◌, IfOk};
 ghost use Rattle.vectors.specs.Hex.{digit_of, byte_of, Spells};
 
-use anyhow::anyhow;
+use anyhow::{Context, anyhow};
 use std::alloc::Global;
 
 // The value of a hexadecimal digit in lower case.
@@ -20,26 +20,20 @@ fn digit(byte: u8) -> Option<u8>
 fn byte_of(high: u8, low: u8) -> Option<u8>
     ensures { result ≡ byte_of (digit_of high) (digit_of low) }
 {
-    match (digit(high), digit(low)) {
-        (Some(high), Some(low)) => Some(high * 16 + low),
-        _ => None,
-    }
+    Some(digit(high)? * 16 + digit(low)?)
 }
 
 /// The bytes that a text spells, two digits for each.
 pub fn decode(heap: Global, text: &str) -> anyhow::Result<Vec<u8>>
     ensures { IfOk result (λ v. Spells text.now v.items) }
 {
-    let digits = text.as_bytes();
-    if digits.len() % 2 != 0 {
+    let (pairs, odd) = text.as_bytes().as_chunks::<2>();
+    if !odd.is_empty() {
         return Err(anyhow!("an odd number of digits"));
     }
     let mut bytes = Vec::new(heap);
-    for i in 0..digits.len() / 2 {
-        let Some(byte) = byte_of(digits[2 * i], digits[2 * i + 1]) else {
-            return Err(anyhow!("no hexadecimal digit"));
-        };
-        bytes.push(byte)?;
+    for [high, low] in pairs {
+        bytes.push(byte_of(*high, *low).context("no hexadecimal digit")?)?;
     }
     Ok(bytes)
 }

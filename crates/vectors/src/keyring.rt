@@ -21,9 +21,10 @@ impl Keyring for OneWord {
 
     fn service_of(&self, pid: u16) -> Option<Service> {
         if self.pid == pid {
-            return Service::new(0);
+            Service::new(0)
+        } else {
+            None
         }
-        None
     }
 
     fn picked_parity(&self, _service: Service) -> Option<Parity> {
@@ -31,9 +32,6 @@ impl Keyring for OneWord {
     }
 
     fn word(&self, _service: Service, parity: Parity) -> Option<Word> {
-        match (self.parity, parity) {
-            (Parity::Even, Parity::Even) | (Parity::Odd, Parity::Odd) => Some(self.word),
-            (Parity::Even, Parity::Odd) | (Parity::Odd, Parity::Even) => None,
-        }
+        (self.parity == parity).then_some(self.word)
     }
 }

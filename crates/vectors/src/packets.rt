@@ -7,8 +7,10 @@ use crate::subject::Packet;
 use crate::vector::Vector;
 use anyhow::Context;
 use cipher::{Cipher, Profile, TailRule};
+use packet::PACKET_LEN;
 use std::alloc::Global;
 use std::fs::File;
+use std::io;
 use std::io::{BufReader, Read};
 use word::{Parity, Word};
 
@@ -53,15 +55,12 @@ struct Record {
 }
 
 fn read_record(heap: Global, file: &mut BufReader<File>) -> anyhow::Result<Record> {
-    let mut word = [0; 16];
-    file.read_exact(&mut word)?;
-    let mut pid = [0; 2];
-    file.read_exact(&mut pid)?;
-    let mut control = [0];
-    file.read_exact(&mut control)?;
+    let word = read_array(file)?;
+    let pid = read_array(file)?;
+    let [control] = read_array::<1>(file)?;
     Ok(Record {
         pid: u16::from_be_bytes(pid),
-        parity: parity_of(u8::from_be_bytes(control)).context("no parity")?,
+        parity: parity_of(control).context("no parity")?,
         vector: Vector {
             word: Word::from_bytes(&word),
             clear: read_packet(heap, file)?,
@@ -70,13 +69,20 @@ fn read_record(heap: Global, file: &mut BufReader<File>) -> anyhow::Result<Recor
     })
 }
 
+fn read_array<const N: usize>(file: &mut BufReader<File>) -> io::Result<[u8; N]> {
+    let mut bytes = [0; N];
+    file.read_exact(&mut bytes)?;
+    Ok(bytes)
+}
+
 fn read_packet(heap: Global, file: &mut BufReader<File>) -> anyhow::Result<Vec<u8>> {
-    let mut packet = vec![in heap; 0; 188]?;
+    let mut packet = vec![in heap; 0; PACKET_LEN]?;
     file.read_exact(packet.as_mut_slice())?;
     Ok(packet)
 }
 
 /// The parity that the two control bits of a scrambled packet stand for.
+// Not the parity byte of wire, 0 or 1: these are a packet's control bits, and two of the four stand for no parity.
 pub fn parity_of(control: u8) -> Option<Parity>
     ensures { result ≡ parity_of control }
 {

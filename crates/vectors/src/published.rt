@@ -29,11 +29,9 @@ const SOURCES: [&str; 9] = [
 
 /// Tries every source, and answers whether the element met all of it.
 pub fn try_published(rt: &HostRuntime) -> anyhow::Result<bool> {
-    let mut met = true;
-    for path in SOURCES {
-        met &= try_source(rt, path)?;
-    }
-    Ok(met)
+    SOURCES
+        .into_iter()
+        .try_fold(true, |met, path| Ok(try_source(rt, path)? && met))
 }
 
 fn try_source(rt: &HostRuntime, path: &str) -> anyhow::Result<bool> {

@@ -1,4 +1,5 @@
-ghost use Rattle.std.specs.Prelude.{◌≡◌, IfOk};
+ghost use Rattle.std.specs.Prelude.{◌≡◌, ◌==◌, not, IfOk};
+ghost use Rattle.std.specs.List.{position_from, zip};
 ghost use Rattle.vectors.specs.Vectors.{differs_from, mismatch_of};
 
 use crate::mismatch::Mismatch;
@@ -26,46 +27,30 @@ pub fn mismatch<S: Subject>(
 ) -> Result<Option<Mismatch>, AllocError>
     ensures { IfOk result (λ m. m ≡ mismatch_of (S.Subject.objection subject.now direction word before.now) (differs_from 0 (S.Subject.turned subject.now direction word before.now) after.now)) }
 {
-    let mut bytes = Vec::from_slice(heap, before)?;
-    Ok(turn_and_compare(subject, direction, word, bytes.as_mut_slice(), after))
-}
-
-// Has the subject turn the bytes, and says how they then differ from those after, if they do.
-fn turn_and_compare<S: Subject>(
-    subject: &S,
-    direction: Direction,
-    word: Word,
-    bytes: &mut [u8],
-    after: &[u8],
-) -> Option<Mismatch>
-    ensures { result ≡ mismatch_of (S.Subject.objection subject.now direction word bytes.old) (differs_from 0 (S.Subject.turned subject.now direction word bytes.old) after.now) }
-{
-    let answer = subject.turn(direction, word, bytes);
-    mismatch_of(answer, first_difference(bytes, after))
+    let mut area = vec![in heap; 0; subject.area_len()]?;
+    let mut bytes = before.to_vec(heap)?;
+    let answer = subject.turn(direction, word, area.as_mut_slice(), bytes.as_mut_slice());
+    Ok(mismatch_of(answer, first_difference(bytes.as_slice(), after)))
 }
 
 fn mismatch_of(answer: Result<(), Mismatch>, place: Option<usize>) -> Option<Mismatch>
     ensures { result ≡ mismatch_of answer place }
 {
-    match (answer, place) {
-        (Err(mismatch), _) => Some(mismatch),
-        (Ok(()), Some(place)) => Some(Mismatch::Byte(place)),
-        (Ok(()), None) => None,
-    }
+    answer.err().or(place.map(Mismatch::Byte))
 }
 
 // The first place at which two lists of bytes differ, which may be the end of the shorter.
 fn first_difference(found: &[u8], expected: &[u8]) -> Option<usize>
     ensures { result ≡ differs_from 0 found.now expected.now }
 {
-    let n = found.len().min(expected.len());
-    for i in 0..n {
-        if found[i] != expected[i] {
-            return Some(i);
-        }
-    }
-    if found.len() == expected.len() {
-        return None;
-    }
-    Some(n)
+    let shorter = found.len().min(expected.len());
+    let ends = (found.len() != expected.len()).then_some(shorter);
+    first_unequal(found, expected).or(ends)
+}
+
+// The first place at which both have a byte, and these differ.
+fn first_unequal(found: &[u8], expected: &[u8]) -> Option<usize>
+    ensures { result ≡ position_from (λ p. not (p.0 == p.1)) 0 (zip found.now expected.now) }
+{
+    found.iter().zip(expected).position(|(a, b)| a != b)
 }
