@@ -2,41 +2,20 @@
 #![tactic(auto)]
 
 use anyhow::anyhow;
+use batch::{Direction, MAX_BATCH_LEN};
+use packet::PACKET_LEN;
 use std::time::{Duration, Instant};
-use std::{env, io};
-use wire::Session;
+use std::{array, env, io};
+use wire::{Request, Session};
+use word::Parity;
 
-const PACKET: usize = 188;
-
-/// 64 packets.
-const BATCH: usize = 12032;
-
-// The tags of the fields.
-const JOIN: u8 = 1;
-
-const LOAD: u8 = 2;
-
-const PICK: u8 = 3;
-
-const SCRAMBLE: u8 = 4;
-
-const DESCRAMBLE: u8 = 5;
-
-/// Even, the word 00112233 44556677 8899aabb ccddeeff, moment 0.
-const LOADED: [u8; 21] = [
-    0, 0x00, 0x11, 0x22, 0x33, 0x44, 0x55, 0x66, 0x77, 0x88, 0x99, 0xaa, 0xbb, 0xcc, 0xdd, 0xee,
-    0xff, 0, 0, 0, 0,
+const WORD: [u8; 16] = [
+    0x00, 0x11, 0x22, 0x33, 0x44, 0x55, 0x66, 0x77, 0x88, 0x99, 0xaa, 0xbb, 0xcc, 0xdd, 0xee, 0xff,
 ];
 
 const USAGE: &str = "bench scramble|descramble BATCHES
 scrambles or descrambles that many batches of 64 packets under CISSA, and prints
 the microseconds and the last packet; bench/run compares it with other software";
-
-#[derive(Clone, Copy)]
-enum Direction {
-    Scramble,
-    Descramble,
-}
 
 fn main(rt: HostRuntime) -> anyhow::Result<()> {
     run(&rt)
@@ -54,6 +33,7 @@ fn run(rt: &HostRuntime) -> anyhow::Result<()> {
     }
 }
 
+// A `FromStr` could stand only in `batch`, which reads no text.
 fn direction_of(text: &str) -> anyhow::Result<Direction> {
     match text {
         "scramble" => Ok(Direction::Scramble),
@@ -64,8 +44,8 @@ fn direction_of(text: &str) -> anyhow::Result<Direction> {
 
 // The byte at that place of a batch of clear packets of PID 128; byte n of the payload of packet k is k + n.
 fn clear_byte(place: usize) -> u8 {
-    let packet = place / PACKET;
-    match place % PACKET {
+    let packet = place / PACKET_LEN;
+    match place % PACKET_LEN {
         0 => 0x47,
         1 => 0x00,
         2 => 0x80,
@@ -74,12 +54,8 @@ fn clear_byte(place: usize) -> u8 {
     }
 }
 
-fn clear_batch() -> [u8; BATCH] {
-    let mut batch = [0; BATCH];
-    for (place, byte) in batch.iter_mut().enumerate() {
-        *byte = clear_byte(place);
-    }
-    batch
+fn clear_batch() -> [u8; MAX_BATCH_LEN] {
+    array::from_fn(clear_byte)
 }
 
 fn measure(rt: &HostRuntime, direction: Direction, batches: u64) -> anyhow::Result<()> {
@@ -95,17 +71,15 @@ fn measure(rt: &HostRuntime, direction: Direction, batches: u64) -> anyhow::Resu
 
 // Joins PID 128, and loads and picks the word.
 fn set_up(session: &mut Session) -> anyhow::Result<()> {
-    ask(session, JOIN, &mut [0x00, 0x80])?;
-    let mut loaded = LOADED;
-    ask(session, LOAD, &mut loaded)?;
-    ask(session, PICK, &mut [0])
+    ask(session, Request::Join(128), &mut [])?;
+    ask(session, Request::Load(Parity::Even, WORD, 0), &mut [])?;
+    ask(session, Request::Pick(Parity::Even), &mut [])
 }
 
-fn ask(session: &mut Session, tag: u8, value: &mut [u8]) -> anyhow::Result<()> {
-    if session.answer(tag, value).number() != 0 {
-        return Err(anyhow!("a field was refused"));
-    }
-    Ok(())
+fn ask(session: &mut Session, request: Request, value: &mut [u8]) -> anyhow::Result<()> {
+    session
+        .ask(request, value)
+        .map_err(|_| anyhow!("a field was refused"))
 }
 
 // Changes the batch again and again, each time from the bytes that it had at first.
@@ -113,28 +87,24 @@ fn repeat(
     rt: &HostRuntime,
     session: &mut Session,
     direction: Direction,
-    batch: &mut [u8; BATCH],
+    batch: &mut [u8; MAX_BATCH_LEN],
     batches: u64,
 ) -> anyhow::Result<Duration> {
     set_up(session)?;
-    if let Direction::Descramble = direction {
-        ask(session, SCRAMBLE, batch)?;
+    if direction == Direction::Descramble {
+        ask(session, Request::Batch(Direction::Scramble), batch)?;
     }
-    let tag = match direction {
-        Direction::Scramble => SCRAMBLE,
-        Direction::Descramble => DESCRAMBLE,
-    };
     let source = *batch;
     let start = Instant::now(rt)?;
     for _ in 0..batches {
         *batch = source;
-        ask(session, tag, batch)?;
+        ask(session, Request::Batch(direction), batch)?;
     }
     Ok(start.elapsed(rt)?)
 }
 
-fn print_last(rt: &HostRuntime, batch: &[u8; BATCH]) -> io::Result<()> {
-    for byte in &batch[BATCH - PACKET..] {
+fn print_last(rt: &HostRuntime, batch: &[u8; MAX_BATCH_LEN]) -> io::Result<()> {
+    for byte in &batch[MAX_BATCH_LEN - PACKET_LEN..] {
         print!(rt; "{byte:02x}")?;
     }
     println!(rt)
