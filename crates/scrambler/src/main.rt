@@ -22,21 +22,26 @@ fn run(rt: &HostRuntime) -> anyhow::Result<()> {
 fn serve(rt: &HostRuntime, session: &mut Session) -> anyhow::Result<()> {
     let mut input = BufReader::new(rt.alloc(), rt.stdin())?;
     let mut output = rt.stdout();
-    let mut field = Vec::new(rt.alloc());
+    let mut buffer = Vec::new(rt.alloc());
     let mut answer = Vec::new(rt.alloc());
+    // No input has so many fields: a loop that reads to the end of its input has a bound.
     for _ in 0..u64::MAX {
-        if let Err(error) = read_field(&mut input, &mut field) {
-            return Err(failed(rt, "standard input cannot be read", &error));
-        }
-        if field.is_empty() {
+        let next = read_field(&mut input, &mut buffer).map_err(|error| failed(
+            rt,
+            "standard input cannot be read",
+            &error,
+        ))?;
+        let Some(field) = next else {
             break;
-        }
+        };
         answer.clear();
-        session.answer_all(rt.alloc(), field.as_slice(), &mut answer)?;
-        if let Err(error) = write_answer(&mut output, answer.as_slice()) {
-            return Err(failed(rt, "standard output cannot be written", &error));
-        }
-        if missing(field.as_slice()) > 0 {
+        session.answer_all(rt.alloc(), field, &mut answer)?;
+        write_answer(&mut output, answer.as_slice()).map_err(|error| failed(
+            rt,
+            "standard output cannot be written",
+            &error,
+        ))?;
+        if missing(field) > 0 {
             break;
         }
     }
@@ -56,14 +61,17 @@ fn write_answer(output: &mut Stdout, answer: &[u8]) -> io::Result<()> {
     output.flush()
 }
 
-// Reads one field; what is read is less than a field only where the input ends.
-fn read_field(input: &mut BufReader<Stdin>, field: &mut Vec<u8>) -> io::Result<()> {
-    field.clear();
-    read_more(input, field)?;
-    if field.len() < 3 {
-        return Ok(());
+// The next field, if the input goes on; it is less than a field only where the input ends.
+fn read_field<'a>(
+    input: &mut BufReader<Stdin>,
+    buffer: &'a mut Vec<u8>,
+) -> io::Result<Option<&'a [u8]>> {
+    buffer.clear();
+    read_more(input, buffer)?;
+    if buffer.len() >= 3 {
+        read_more(input, buffer)?;
     }
-    read_more(input, field)
+    Ok((!buffer.is_empty()).then_some(buffer.as_slice()))
 }
 
 // Reads what the field lacks, as far as the input has it.
