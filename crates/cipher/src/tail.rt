@@ -14,6 +14,7 @@ pub trait TailRule {
 
     ghost off: { Self → List ℕ → List ℕ → List ℕ };
 
+    // A tail rule is the two functions on and off, and not one with a direction, by a rule of the project.
     fn scramble_tail(&self, mask: &[u8], tail: &mut [u8])
         requires { length tail.old ≤ length mask.now }
         ensures { tail.new ≡ on self.now mask.now tail.old };

@@ -91,6 +91,7 @@ impl ThreeGroups {
     }
 
     /// The word, once the fourth group is given.
+    // Beside `identifier`, and not generic: what is left in each, over `halves`, is the type that it makes.
     pub fn word(self, text: &str) -> Result<Word, Refused<ThreeGroups>>
         ensures { result ≡ word_given self text.now }
     {
@@ -123,6 +124,7 @@ fn three_groups(first: &str, second: &str, third: &str) -> Result<ThreeGroups, E
 }
 
 /// The word of four groups; the first that is refused decides.
+// Beside `enter_identifier`, and not generic, as `ThreeGroups::word`.
 pub fn enter_word(first: &str, second: &str, third: &str, fourth: &str) -> Result<Word, EntryFault>
     ensures { result ≡ entered_word first.now second.now third.now fourth.now }
 {

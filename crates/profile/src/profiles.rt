@@ -6,6 +6,8 @@ use cipher::{ClearTail, MaskedTail, Profile};
 
 const CISSA_IV: [u8; 16] = *b"DVBTMCPTAESCISSA";
 
+// A function for each profile and no generic one: each names the types of its cipher and tail rule.
+
 /// CISSA (ETSI TS 103 127, clause 6): AES-128, the clear rule and a vector of its own.
 pub fn cissa_profile() -> Profile<Aes128, ClearTail>
     ensures { result.iv ≡ cissa_vector }

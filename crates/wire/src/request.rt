@@ -123,6 +123,7 @@ fn batch_in(value: &[u8], direction: Direction) -> Result<Request, ProgramFault>
     Ok(Request::Batch(direction))
 }
 
+// No TryFrom of `Parity`: these two numbers are this format's alone.
 fn parity_of(byte: u8) -> Result<Parity, ProgramFault>
     ensures { result ≡ parity_of byte }
 {
