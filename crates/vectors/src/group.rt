@@ -66,12 +66,8 @@ impl Group {
         ensures { self.new ≡ record { name = self.old.name; cases = min (self.old.cases + 1) (2 ^ 64 - 1); scrambled = (if scrambled then min (self.old.scrambled + 1) (2 ^ 64 - 1) else self.old.scrambled); descrambled = (if descrambled then min (self.old.descrambled + 1) (2 ^ 64 - 1) else self.old.descrambled) } }
     {
         self.cases = self.cases.saturating_add(1);
-        if scrambled {
-            self.scrambled = self.scrambled.saturating_add(1);
-        }
-        if descrambled {
-            self.descrambled = self.descrambled.saturating_add(1);
-        }
+        self.scrambled = self.scrambled.saturating_add(u64::from(scrambled));
+        self.descrambled = self.descrambled.saturating_add(u64::from(descrambled));
     }
 
     // Whether every case was met both ways.

@@ -1,4 +1,4 @@
-use Rattle.std.proofs.Common.{◌≡◌, ℕ, ◌+◌, min, length, arith}
+use Rattle.std.proofs.Common.{◌≡◌, ◌+◌, min, length, arith}
 use Rattle.vectors.proofs.Differences.{differs_by_pairs}
 use Rattle.vectors.proofs.vector.first_difference.Goals as goal
 
