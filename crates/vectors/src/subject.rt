@@ -1,5 +1,5 @@
 // The parts of the element that are held to vectors.
-ghost use Rattle.std.specs.Prelude.{◌≡◌, ℕ, List, length, Ok, Result};
+ghost use Rattle.std.specs.Prelude.{◌≡◌, ℕ, List, Ok, Result};
 ghost use Rattle.batch.specs.Batches.{payload_after};
 ghost use Rattle.cipher.specs.declared.direction.Direction.{Direction};
 ghost use Rattle.cipher.specs.Profiles.{meaning};
@@ -14,28 +14,19 @@ use batch::{BatchFault, Direction};
 use cipher::{Cipher, Profile, TailRule};
 use word::{Parity, Word};
 
+// The longest schedule that a cipher may have. A turn cuts an array of it to length: no array's length may hang
+// on a type parameter, a caller is asked for no area, and for want of memory a turn has no answer.
+const LONGEST_SCHEDULE: usize = 4096;
+
 /// What scrambles bytes under a word, and descrambles them.
 pub trait Subject {
-    // The length of the key area that a turn needs.
-    ghost area_length: { ℕ };
-
     // What the bytes become.
     ghost turned: { Self → Direction → Word → List ℕ → List ℕ };
 
     // What is wrong, whatever they become.
     ghost objection: { Self → Direction → Word → List ℕ → Result (Unit {0}) Mismatch };
 
-    fn area_len(&self) -> usize
-        ensures { result ≡ area_length };
-
-    fn turn(
-        &self,
-        direction: Direction,
-        word: Word,
-        area: &mut [u8],
-        bytes: &mut [u8],
-    ) -> Result<(), Mismatch>
-        requires { length area.old ≡ area_length }
+    fn turn(&self, direction: Direction, word: Word, bytes: &mut [u8]) -> Result<(), Mismatch>
         ensures value { result ≡ objection self.now direction word bytes.old }
         ensures after { bytes.new ≡ turned self.now direction word bytes.old };
 }
@@ -45,26 +36,16 @@ pub trait Subject {
 pub struct Block<C>(pub C);
 
 impl<C: Cipher> Subject for Block<C> {
-    ghost area_length = { C.Cipher.SCHEDULE };
-
     ghost turned = { λ s d w b. block_turned C.Cipher.WIDTH (C.Cipher.E s.0 w) (C.Cipher.D s.0 w) d b };
 
     ghost objection = { λ s d w b. Ok tt };
 
-    fn area_len(&self) -> usize {
-        C::SCHEDULE
-    }
-
-    fn turn(
-        &self,
-        direction: Direction,
-        word: Word,
-        area: &mut [u8],
-        bytes: &mut [u8],
-    ) -> Result<(), Mismatch> {
+    fn turn(&self, direction: Direction, word: Word, bytes: &mut [u8]) -> Result<(), Mismatch> {
         if bytes.len() != C::WIDTH {
             return Ok(());
         }
+        let mut room = [0; LONGEST_SCHEDULE];
+        let area = &mut room[0..C::SCHEDULE];
         self.0.prepare(word, area);
         match direction {
             Direction::Scramble => self.0.encrypt(area, bytes),
@@ -79,23 +60,13 @@ impl<C: Cipher> Subject for Block<C> {
 pub struct Payload<C, T>(pub Profile<C, T>);
 
 impl<C: Cipher, T: TailRule> Subject for Payload<C, T> {
-    ghost area_length = { C.Cipher.SCHEDULE };
-
     ghost turned = { λ s d w b. payload_after d (meaning C.Cipher T.TailRule s.0) w b };
 
     ghost objection = { λ s d w b. Ok tt };
 
-    fn area_len(&self) -> usize {
-        C::SCHEDULE
-    }
-
-    fn turn(
-        &self,
-        direction: Direction,
-        word: Word,
-        area: &mut [u8],
-        bytes: &mut [u8],
-    ) -> Result<(), Mismatch> {
+    fn turn(&self, direction: Direction, word: Word, bytes: &mut [u8]) -> Result<(), Mismatch> {
+        let mut room = [0; LONGEST_SCHEDULE];
+        let area = &mut room[0..C::SCHEDULE];
         self.0.cipher.prepare(word, area);
         // The area is as long as a schedule, so it is not refused.
         let _ = self.0.process_payload(direction, area, bytes);
@@ -112,28 +83,18 @@ pub struct Packet<'a, C, T> {
 }
 
 impl<C: Cipher, T: TailRule> Subject for Packet<'_, C, T> {
-    ghost area_length = { C.Cipher.SCHEDULE };
-
     ghost turned = { λ s d w b. packet_turned d (meaning C.Cipher T.TailRule s.profile.now) (one_word w s.pid s.parity) b };
 
     ghost objection = { λ s d w b. packet_answer d (meaning C.Cipher T.TailRule s.profile.now) (one_word w s.pid s.parity) b };
 
-    fn area_len(&self) -> usize {
-        C::SCHEDULE
-    }
-
-    fn turn(
-        &self,
-        direction: Direction,
-        word: Word,
-        area: &mut [u8],
-        bytes: &mut [u8],
-    ) -> Result<(), Mismatch> {
+    fn turn(&self, direction: Direction, word: Word, bytes: &mut [u8]) -> Result<(), Mismatch> {
         let keys = OneWord {
             word,
             pid: self.pid,
             parity: self.parity,
         };
+        let mut room = [0; LONGEST_SCHEDULE];
+        let area = &mut room[0..C::SCHEDULE];
         one_changed(batch::process(direction, self.profile, &keys, area, bytes))
     }
 }

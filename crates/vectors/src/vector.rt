@@ -27,9 +27,8 @@ pub fn mismatch<S: Subject>(
 ) -> Result<Option<Mismatch>, AllocError>
     ensures { IfOk result (λ m. m ≡ mismatch_of (S.Subject.objection subject.now direction word before.now) (differs_from 0 (S.Subject.turned subject.now direction word before.now) after.now)) }
 {
-    let mut area = vec![in heap; 0; subject.area_len()]?;
     let mut bytes = before.to_vec(heap)?;
-    let answer = subject.turn(direction, word, area.as_mut_slice(), bytes.as_mut_slice());
+    let answer = subject.turn(direction, word, bytes.as_mut_slice());
     Ok(mismatch_of(answer, first_difference(bytes.as_slice(), after)))
 }
 
