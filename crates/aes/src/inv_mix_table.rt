@@ -42,5 +42,6 @@ const INV_MIX_TABLE: [u32; 256] = [
 pub fn inv_mixed(b: u8) -> u32
     ensures { word_bytes result ≡ column_of inv_mix_byte (b ∷ 0 ∷ 0 ∷ 0 ∷ []) }
 {
+    // `as`, and no `usize::from`: with a call in between the proof of the whole table does not compute.
     INV_MIX_TABLE[b as usize]
 }

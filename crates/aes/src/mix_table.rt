@@ -43,5 +43,6 @@ const MIX_TABLE: [u32; 256] = [
 pub fn mixed_s_box(b: u8) -> u32
     ensures { word_bytes result ≡ column_of mix_byte (s_box b ∷ 0 ∷ 0 ∷ 0 ∷ []) }
 {
+    // `as`, and no `usize::from`: with a call in between the proof of the whole table does not compute.
     MIX_TABLE[b as usize]
 }

@@ -25,5 +25,6 @@ const S_BOX: [u8; 256] = [
 pub fn sub_byte(b: u8) -> u8
     ensures { result ≡ s_box b }
 {
+    // `as`, and no `usize::from`: with a call in between the proof of the whole table does not compute.
     S_BOX[b as usize]
 }

@@ -19,6 +19,8 @@ fn decimal(text: &str) -> Option<u32>
     text.parse().ok()
 }
 
+// These are functions and no `FromStr`: the types are `word`'s and std's, and what is refused is a column of a line.
+
 pub(crate) fn service_of(text: &str) -> Result<Service, Cause>
     ensures { IfOk result (λ s. s.number ≡ digits_value 10 (without_leading_plus text.now)) }
 {

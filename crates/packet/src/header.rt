@@ -32,6 +32,7 @@ impl ScramblingControl {
     }
 
     /// The two bits, 0 to 3.
+    // No `From`: of a byte it would not say which two bits these are.
     pub fn bits(self) -> u8
         ensures { result ≡ control_bits self }
     {
@@ -83,6 +84,7 @@ pub struct Header {
 
 impl Header {
     /// The header of a packet that begins with these bytes.
+    // Named as std's `from_be_bytes`; a `From` would not say that bytes are read.
     pub fn from_bytes(bytes: [u8; 5]) -> Header
         ensures { result ≡ header_of bytes }
     {

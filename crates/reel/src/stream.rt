@@ -150,6 +150,7 @@ impl<'a> Run<'a> {
         requires { F.IsAlwaysCallable work }
     {
         let mut batch = Vec::with_capacity(self.rt.alloc(), MAX_BATCH_LEN)?;
+        // No stream has so many batches: a loop that reads to the end of its input has a bound, so that every call ends.
         for _ in 0..u64::MAX {
             batch.clear();
             input

@@ -20,6 +20,7 @@ impl Identifier {
     }
 
     /// The identifier of sixteen bytes.
+    // Named as `Word::from_bytes`, for the same reason.
     pub fn from_bytes(bytes: &[u8; 16]) -> Identifier
         ensures { result ≡ identifier_of bytes.now }
     {

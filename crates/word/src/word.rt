@@ -20,6 +20,7 @@ impl Word {
     }
 
     /// The word of sixteen bytes.
+    // Named as std's `from_be_bytes` and `to_be_bytes`; a `From` would not say that bytes are read.
     pub fn from_bytes(bytes: &[u8; 16]) -> Word
         ensures { result ≡ word_of bytes.now }
     {
