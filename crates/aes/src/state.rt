@@ -32,7 +32,7 @@ pub fn keyed_diagonal<F: Fn(u8) -> u8>(image: F, a: u32, b: u32, c: u32, d: u32,
     u32::from_le_bytes([p, q, r, s]) ^ key
 }
 
-// The round keys of a key schedule.
+// The round keys of a key schedule. A slice with its length: the public calls take one, and an array would ask more.
 pub fn round_keys(schedule: &[u8]) -> &[[u8; 16]; 11]
     requires { length schedule.now ≡ 176 }
     ensures { result.now ≡ first_chunks 16 11 schedule.now }

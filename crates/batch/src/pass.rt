@@ -92,7 +92,7 @@ impl<C: Cipher, T: TailRule, K: Keyring> Pass<'_, C, T, K> {
         let mut prepared = None;
         let mut changed = 0;
         let mut passed = 0;
-        // By place: of what `chunks_exact_mut`, `as_chunks_mut` or `as_mut_array` write, the proof knows nothing.
+        // By place: of what is written through `chunks_exact_mut` and `as_chunks_mut` the proof knows nothing.
         for i in 0..batch.len() / PACKET_LEN {
             let at = PACKET_LEN * i;
             if self.follow(&mut prepared, area, &mut batch[at..at + PACKET_LEN]) {

@@ -3,7 +3,7 @@
 
 use anyhow::anyhow;
 use batch::{Direction, MAX_BATCH_LEN};
-use packet::PACKET_LEN;
+use packet::{PACKET_LEN, SYNC_BYTE};
 use std::time::{Duration, Instant};
 use std::{array, env, io};
 use wire::{Request, Session};
@@ -33,7 +33,7 @@ fn run(rt: &HostRuntime) -> anyhow::Result<()> {
     }
 }
 
-// A `FromStr` could stand only in `batch`, which reads no text.
+// The two words of the command line; a `FromStr` would give `Direction` a spelling wherever it is used.
 fn direction_of(text: &str) -> anyhow::Result<Direction> {
     match text {
         "scramble" => Ok(Direction::Scramble),
@@ -46,7 +46,7 @@ fn direction_of(text: &str) -> anyhow::Result<Direction> {
 fn clear_byte(place: usize) -> u8 {
     let packet = place / PACKET_LEN;
     match place % PACKET_LEN {
-        0 => 0x47,
+        0 => SYNC_BYTE,
         1 => 0x00,
         2 => 0x80,
         3 => 0x10,

@@ -7,7 +7,7 @@ ghost use Rattle.des.specs.Cipher.{IP, IP⁻¹, halves, preoutput, round, enciph
 use super::feistel::Halves;
 use super::tables::{initial_permutation, inverse_permutation};
 
-// The round keys of a schedule, K1 first.
+// The round keys of a schedule, K1 first. A slice with its length: the public calls take one, and an array would ask more.
 fn round_keys(schedule: &[u8]) -> &[[u8; 8]]
     requires { length schedule.now ≡ 128 }
     ensures { result.now ≡ first_chunks 8 16 schedule.now }

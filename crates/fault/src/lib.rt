@@ -37,6 +37,7 @@ pub struct Refusal {
     /// A number, not a kind: this is the form that the wire and the operator see. The causes are the layers' own enums.
     pub number: u8,
     pub layer: Layer,
+    // Places are 0 where there is none, in the same form and for the same reason.
     pub first: u64,
     pub second: u64,
 }

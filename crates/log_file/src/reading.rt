@@ -19,7 +19,7 @@ pub struct Log {
 
 impl Log {
     /// The first line, if the words are encrypted and no identifier is given for them, or the other way round.
-    // An Option, and no Result: the question is whether a line is wrong, and `misfit_cause` answers it so.
+    // An Option, and no Result: it is what callers outside have, and `misfit_cause` answers as an Option too.
     pub fn misfit(&self, given: bool) -> Option<LogFault>
         ensures fits { misfit_cause self.now.kind given ≡ None → result ≡ None }
         ensures cause { IfSome result (λ f. Some f.cause ≡ misfit_cause self.now.kind given) }

@@ -79,6 +79,7 @@ pub struct Header {
     pub control: ScramblingControl,
     pub adaptation: AdaptationControl,
     /// Byte 4: the length of the adaptation field, where there is one.
+    // Beside `adaptation`, not in it: a header is five bytes as they stand, which no reading refuses.
     pub length: u8,
 }
 

@@ -278,10 +278,9 @@ fn log_request(heap: Global, words: &mut Words<'_>) -> Result<LogRequest, BadCom
         }
     }
     let path = String::from_str(heap, path.ok_or(Mistake::NoLog)?)?;
-    let identifier = match identifier {
-        Some(path) => Some(String::from_str(heap, path)?),
-        None => None,
-    };
+    let identifier = identifier
+        .map(|path| String::from_str(heap, path))
+        .transpose()?;
     Ok(LogRequest {
         path,
         identifier,

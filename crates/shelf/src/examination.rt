@@ -22,6 +22,7 @@ fn loaded_at<S: Shelf>(shelf: &S, service: Service) -> bool
 }
 
 /// Whether any service holds a word.
+// Beside `loaded`, and no worker with a closure: the test is all that either says.
 fn holds_word<S: Shelf>(shelf: &S) -> bool
     ensures { result ≡ any_below 32 (holds_at (meaning_of S.Shelf shelf.now)) }
 {

@@ -5,7 +5,7 @@ ghost use Rattle.vectors.specs.Hex.{digit_of, byte_of, Spells};
 use anyhow::{Context, anyhow};
 use std::alloc::Global;
 
-// The value of a hexadecimal digit in lower case.
+// The value of a hexadecimal digit in lower case. Neither `char::to_digit` nor the kit's `hex` refuses upper case.
 fn digit(byte: u8) -> Option<u8>
     ensures { result ≡ digit_of byte }
 {

@@ -13,7 +13,7 @@ use crate::desk::{Desk, Slot};
 use crate::engine::Engine;
 use crate::faults::EngineFault;
 use crate::grant::{Grant, Unclosed};
-use batch::{Direction, Keyring};
+use batch::Direction;
 use cipher::{Cipher, Profile, TailRule, all_bytes};
 use shelf::Shelf;
 use word::{Moment, Parity, Service};
