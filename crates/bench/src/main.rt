@@ -6,11 +6,12 @@ use batch::{Direction, MAX_BATCH_LEN};
 use packet::{PACKET_LEN, SYNC_BYTE};
 use std::time::{Duration, Instant};
 use std::{array, env, io};
-use wire::{Request, Session};
-use word::Parity;
+use wire::{Session, Tag};
 
-const WORD: [u8; 16] = [
-    0x00, 0x11, 0x22, 0x33, 0x44, 0x55, 0x66, 0x77, 0x88, 0x99, 0xaa, 0xbb, 0xcc, 0xdd, 0xee, 0xff,
+/// Even, the word 00112233 44556677 8899aabb ccddeeff, moment 0.
+const LOADED: [u8; 21] = [
+    0, 0x00, 0x11, 0x22, 0x33, 0x44, 0x55, 0x66, 0x77, 0x88, 0x99, 0xaa, 0xbb, 0xcc, 0xdd, 0xee,
+    0xff, 0, 0, 0, 0,
 ];
 
 const USAGE: &str = "bench scramble|descramble BATCHES
@@ -71,15 +72,17 @@ fn measure(rt: &HostRuntime, direction: Direction, batches: u64) -> anyhow::Resu
 
 // Joins PID 128, and loads and picks the word.
 fn set_up(session: &mut Session) -> anyhow::Result<()> {
-    ask(session, Request::Join(128), &mut [])?;
-    ask(session, Request::Load(Parity::Even, WORD, 0), &mut [])?;
-    ask(session, Request::Pick(Parity::Even), &mut [])
+    ask(session, Tag::Join, &mut [0x00, 0x80])?;
+    let mut loaded = LOADED;
+    ask(session, Tag::Load, &mut loaded)?;
+    ask(session, Tag::Pick, &mut [0])
 }
 
-fn ask(session: &mut Session, request: Request, value: &mut [u8]) -> anyhow::Result<()> {
-    session
-        .ask(request, value)
-        .map_err(|_| anyhow!("a field was refused"))
+fn ask(session: &mut Session, tag: Tag, value: &mut [u8]) -> anyhow::Result<()> {
+    if session.answer(tag as u8, value).number() != 0 {
+        return Err(anyhow!("a field was refused"));
+    }
+    Ok(())
 }
 
 // Changes the batch again and again, each time from the bytes that it had at first.
@@ -92,13 +95,17 @@ fn repeat(
 ) -> anyhow::Result<Duration> {
     set_up(session)?;
     if direction == Direction::Descramble {
-        ask(session, Request::Batch(Direction::Scramble), batch)?;
+        ask(session, Tag::Scramble, batch)?;
     }
+    let tag = match direction {
+        Direction::Scramble => Tag::Scramble,
+        Direction::Descramble => Tag::Descramble,
+    };
     let source = *batch;
     let start = Instant::now(rt)?;
     for _ in 0..batches {
         *batch = source;
-        ask(session, Request::Batch(direction), batch)?;
+        ask(session, tag, batch)?;
     }
     Ok(start.elapsed(rt)?)
 }

@@ -31,7 +31,7 @@ pub trait Cipher {
         requires { length area.old ≡ SCHEDULE }
         ensures { area.new ≡ schedule self.now word };
 
-    // A cipher is the two functions E and D, and not one with a direction, by a rule of the project.
+    // Two functions, E and D, as the standards have a cipher, and not one with a direction.
     /// Turns the block into E of it, under the word whose schedule the area holds.
     fn encrypt(&self, area: &[u8], block: &mut [u8])
         requires { (length area.now ≡ SCHEDULE) × (length block.old ≡ WIDTH) }

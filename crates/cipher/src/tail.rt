@@ -14,7 +14,7 @@ pub trait TailRule {
 
     ghost off: { Self → List ℕ → List ℕ → List ℕ };
 
-    // A tail rule is the two functions on and off, and not one with a direction, by a rule of the project.
+    // Two functions, on and off, as docs/profiles.md has a tail rule, and not one with a direction.
     fn scramble_tail(&self, mask: &[u8], tail: &mut [u8])
         requires { length tail.old ≤ length mask.now }
         ensures { tail.new ≡ on self.now mask.now tail.old };
@@ -51,7 +51,12 @@ impl TailRule for MaskedTail {
 
     ghost off = { λ s mask tail. xors tail mask };
 
-    ghost inverts = { Prim.search (rules, length_xors, xors_back) };
+    ghost inverts = { λ s. record {
+      on_long = λ mask tail. length_xors tail mask;
+      off_long = λ mask tail. length_xors tail mask;
+      off_on = λ mask tail h b. xors_back tail mask;
+      on_off = λ mask tail h b. xors_back tail mask;
+    } };
 
     fn scramble_tail(&self, mask: &[u8], tail: &mut [u8]) {
         xor_into(tail, mask);

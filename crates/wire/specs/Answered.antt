@@ -13,6 +13,7 @@ use Rattle.wire.specs.Programs.{view_of, state_of}
 use Rattle.wire.specs.Requests.{Asked}
 use Rattle.wire.specs.States.{state_after}
 
+-- the engine of the program: CISSA over a pacing plain shelf
 abbrev pub ProgramEngine : Type 0
 ProgramEngine = Engine Aes128 ClearTail (Pacing PlainShelf)
 
@@ -22,6 +23,7 @@ Does before asked value after =
     (state_of after ≡ state_after (state_of before) asked)
     × ((given : Given) (calls : List Call) → Run view_of given calls before → Run view_of given (calls_for (view_of before) asked value ++ calls) after)
 
+-- a field of that tag and value
 abbrev pub field_of : ℕ → List ℕ → Field
 field_of tag value = record { tag = tag; value = value }
 

@@ -1,5 +1,5 @@
 -- What a field asks for, in the order of the tests.
-use Rattle.std.specs.Prelude.{ℕ, ◌+◌, ◌*◌, cond, List, length, take, drop, Ok, Err, Result, ◌==◌, nat_le, slice_index}
+use Rattle.std.specs.Prelude.{ℕ, ◌+◌, ◌*◌, Bool, true, false, cond, List, length, take, drop, Ok, Err, Result, ◌==◌, nat_le, slice_index}
 use Rattle.cipher.specs.declared.direction.Direction.{Direction}
 use Rattle.cipher.specs.declared.direction.Direction.TheVariants as direction
 use Rattle.word.specs.declared.parity.Parity.{Parity}
@@ -89,3 +89,14 @@ answer_byte tag.Load = 2 + 128
 answer_byte tag.Pick = 3 + 128
 answer_byte tag.Scramble = 4 + 128
 answer_byte tag.Descramble = 5 + 128
+
+-- the tag of a request's answer
+abbrev pub answer_tag : Request → ℕ
+answer_tag r = answer_byte (tag_of r)
+
+-- a batch is answered with its bytes
+abbrev pub carries_batch : Request → Bool
+carries_batch (Join pid) = false
+carries_batch (Load p entry moment) = false
+carries_batch (Pick p) = false
+carries_batch (Batch d) = true

@@ -115,8 +115,9 @@ fn answer_rest(rest: &[u8], out: &mut Vec<u8>) -> Result<(), AllocError>
         return Ok(());
     }
     let cut = Reply {
-        tag: None,
+        tag: 255,
         outcome: Err(ProgramFault::CutShort),
+        with_value: false,
     };
     cut.write(&[], out)
 }

@@ -1,28 +1,23 @@
 ghost use Rattle.std.specs.Prelude.{◌≡◌, ◌+◌, ◌/◌, ◌%◌, [], ◌∷◌, ◌++◌, length, if◌then◌else◌, OnOk};
-ghost use Rattle.wire.specs.Replies.{number_of, answer_tag, carries_batch, written};
+ghost use Rattle.wire.specs.Replies.{number_of, written};
 
 use crate::faults::ProgramFault;
-use crate::request::Tag;
 use fault::Refusal;
 use std::alloc::AllocError;
 
 /// What is answered to a field.
 #[derive(Clone, Copy, Debug, PartialEq, Eq)]
 pub struct Reply {
-    /// The tag of the field, if it asks for anything.
-    pub tag: Option<Tag>,
+    // A number and a flag, not the `Tag` of the field: whoever makes a reply may give any, and a `Tag` would admit fewer.
+    /// The tag of the answer.
+    pub tag: u8,
     /// Accepted, or why the field is refused.
     pub outcome: Result<(), ProgramFault>,
+    /// Whether the field's value, as it was left, follows.
+    pub with_value: bool,
 }
 
 impl Reply {
-    /// The tag of the answer.
-    pub fn answer_tag(&self) -> u8
-        ensures { result ≡ answer_tag self.now.tag }
-    {
-        self.tag.map_or(255, Tag::answer)
-    }
-
     /// The refusal's number, or 0.
     pub fn number(&self) -> u8
         ensures { result ≡ number_of self.now.outcome }
@@ -33,14 +28,11 @@ impl Reply {
         }
     }
 
-    // What follows the number: the field's value, if that is a batch.
+    // What follows the number.
     fn body<'a>(&self, value: &'a [u8]) -> &'a [u8]
-        ensures { result.now ≡ (if carries_batch self.now.tag then value.now else []) }
+        ensures { result.now ≡ (if self.now.with_value then value.now else []) }
     {
-        match self.tag {
-            Some(Tag::Scramble | Tag::Descramble) => value,
-            Some(Tag::Join | Tag::Load | Tag::Pick) | None => &[],
-        }
+        if self.with_value { value } else { &[] }
     }
 
     /// Writes the answer behind what is there; `value` is the field's value as it was left.
@@ -49,7 +41,7 @@ impl Reply {
     {
         let body = self.body(value);
         let [high, low] = length_bytes(body);
-        out.extend_from_slice(&[self.answer_tag(), high, low, self.number()])?;
+        out.extend_from_slice(&[self.tag, high, low, self.number()])?;
         out.extend_from_slice(body)?;
         Ok(())
     }

@@ -1,5 +1,5 @@
 ghost use Rattle.std.specs.Prelude.{◌≡◌};
-ghost use Rattle.wire.specs.Requests.{tag_in, parity_of, join_in, load_in, pick_in, batch_in, request_of, tag_of, answer_byte};
+ghost use Rattle.wire.specs.Requests.{tag_in, parity_of, join_in, load_in, pick_in, batch_in, request_of, tag_of, answer_byte, answer_tag, carries_batch};
 
 use crate::faults::ProgramFault;
 use batch::{Direction, MAX_BATCH_LEN};
@@ -66,6 +66,20 @@ impl Request {
             Request::Batch(Direction::Scramble) => Tag::Scramble,
             Request::Batch(Direction::Descramble) => Tag::Descramble,
         }
+    }
+
+    /// The tag of the request's answer.
+    pub fn answer_tag(&self) -> u8
+        ensures { result ≡ answer_tag self.now }
+    {
+        self.tag().answer()
+    }
+
+    /// Whether the answer has the field's value behind it.
+    pub fn carries_batch(&self) -> bool
+        ensures { result ≡ carries_batch self.now }
+    {
+        matches!(self, Request::Batch(_))
     }
 }
 

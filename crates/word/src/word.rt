@@ -4,7 +4,7 @@ ghost use Rattle.word.specs.Words.{word_of, word_bytes};
 use crate::halves::{bytes_of_halves, halves_of};
 
 /// A word of 16 bytes: two numbers of 64 bits, the most significant first.
-// A struct of its own beside `Identifier`, by a rule of the project: neither may stand for the other.
+// A struct of its own beside `Identifier`, though both are two numbers: neither may stand for the other.
 #[derive(Clone, Copy, PartialEq, Eq)]
 pub struct Word {
     high: u64,

@@ -133,7 +133,7 @@ impl<C: Cipher, T: TailRule, S: Shelf> Engine<C, T, S> {
     }
 
     /// Scrambles the joined packets of a batch. Answers how many were changed, and how many passed.
-    // Two calls, not one with a direction: the engine has these eight by a rule of the project.
+    // Two calls, not one with a direction: docs/engine.md names the eight that users of an engine know.
     pub fn scramble(&self, area: &mut [u8], batch: &mut [u8]) -> Result<(usize, usize), EngineFault>
         ensures does { Batches Scramble (model_of C.Cipher T.TailRule S.Shelf self.now) area.old batch.old result area.new batch.new (model_of C.Cipher T.TailRule S.Shelf self.now) }
         ensures runs { Extends (model_of C.Cipher T.TailRule S.Shelf) (scrambles area.old batch.old result area.new batch.new) self.now self.now }

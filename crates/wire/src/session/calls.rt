@@ -83,8 +83,8 @@ impl Session {
         }
     }
 
-    /// Does what is requested, for service 0; `value` is the batch, if it is one that is asked for.
-    pub fn ask(&mut self, request: Request, value: &mut [u8]) -> Result<(), ProgramFault>
+    // Does what is requested, for service 0; `value` is the batch, if it is one that is asked for.
+    fn ask(&mut self, request: Request, value: &mut [u8]) -> Result<(), ProgramFault>
         ensures outcome { result ≡ outcome_at (view_of self.old.engine) request value.old }
         ensures value { value.new ≡ value_left (view_of self.old.engine) (Ok request) value.old }
         ensures does { Does self.old.engine (Ok request) value.old self.new.engine }
@@ -108,12 +108,14 @@ impl Session {
     {
         match request_of(tag, value) {
             Ok(request) => Reply {
-                tag: Some(request.tag()),
+                tag: request.answer_tag(),
                 outcome: self.ask(request, value),
+                with_value: request.carries_batch(),
             },
             Err(fault) => Reply {
-                tag: None,
+                tag: 255,
                 outcome: Err(fault),
+                with_value: false,
             },
         }
     }
