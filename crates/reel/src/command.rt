@@ -241,13 +241,9 @@ fn packets_shown(words: &mut Words<'_>) -> bool {
     shown
 }
 
-// The next word, as what it is to say.
-fn given<T>(
-    words: &mut Words<'_>,
-    read: impl FnOnce(&str) -> Option<T>,
-    mistake: Mistake,
-) -> Result<T, Mistake> {
-    words.next().and_then(read).ok_or(mistake)
+fn given_parity(words: &mut Words<'_>) -> Result<Parity, Mistake> {
+    let text = words.next().ok_or(Mistake::Parity)?;
+    text.parse().map_err(|_| Mistake::Parity)
 }
 
 fn given_pids(heap: Global, list: &str) -> Result<Vec<u16>, BadCommand> {
@@ -259,10 +255,15 @@ fn given_pids(heap: Global, list: &str) -> Result<Vec<u16>, BadCommand> {
 
 // Parity, the four groups of the word, PIDs.
 fn given_keys(heap: Global, words: &mut Words<'_>) -> Result<Keys, BadCommand> {
-    let parity = given(words, |text| text.parse().ok(), Mistake::Parity)?;
+    let parity = given_parity(words)?;
     let word = enter_word(words.group(), words.group(), words.group(), words.group())?;
     let pids = given_pids(heap, words.next().ok_or(Mistake::Pid)?)?;
     Ok(Keys { parity, word, pids })
+}
+
+fn given_moment(words: &mut Words<'_>) -> Result<Moment, Mistake> {
+    let text = words.next().ok_or(Mistake::Moment)?;
+    moment_of(text).map_err(|_| Mistake::Moment)
 }
 
 // The log's path, and the options that follow it in either order, each once.
@@ -274,13 +275,14 @@ fn log_request(heap: Global, words: &mut Words<'_>) -> Result<LogRequest, BadCom
         if identifier.is_none() && words.takes("--identifier") {
             identifier = words.next();
         } else if at.is_none() && words.takes("--at") {
-            at = Some(given(words, |text| moment_of(text).ok(), Mistake::Moment)?);
+            at = Some(given_moment(words)?);
         }
     }
     let path = String::from_str(heap, path.ok_or(Mistake::NoLog)?)?;
-    let identifier = identifier
-        .map(|path| String::from_str(heap, path))
-        .transpose()?;
+    let identifier = match identifier {
+        Some(path) => Some(String::from_str(heap, path)?),
+        None => None,
+    };
     Ok(LogRequest {
         path,
         identifier,
