@@ -6,7 +6,7 @@ use Rattle.component.proofs.Lookups.{apart_kept, joined_without_pid, length_with
 use Rattle.component.proofs.components.Components.remove.Goals as goal
 
 pub invariant_of-self : goal.invariant_of-self
-invariant_of-self c = record { apart = apart_kept _ _ _ (filter-from_retain _ (λ x. not (eqb x.pid c.args.pid)) _ (λ x b f' y called. search rules) _ _ c.retain.ensures.filtered) c.args.self.now.apart }
+invariant_of-self c = record { few = omega (arith, c.retain.ensures.bound, c.args.self.now.few); apart = apart_kept _ _ _ (filter-from_retain _ (λ x. not (eqb x.pid c.args.pid)) _ (λ x b f' y called. search rules) _ _ c.retain.ensures.filtered) c.args.self.now.apart }
 
 pub returns-clause-rows : goal.returns-clause-rows
 unfolding components_of joined count
