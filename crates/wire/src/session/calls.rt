@@ -75,6 +75,7 @@ impl Session {
     ) -> Result<(usize, usize), EngineFault>
         ensures answer { result ≡ from_batch (counts direction (view_of self.old.engine) batch.old) }
         ensures batch { batch.new ≡ batch_left direction (view_of self.old.engine) batch.old }
+        ensures same { self.new.engine ≡ self.old.engine }
         ensures does { Does self.old.engine (Ok (Batch direction)) batch.old self.new.engine }
     {
         match direction {
