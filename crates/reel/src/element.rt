@@ -3,9 +3,10 @@ ghost use Rattle.std.specs.Prelude.{◌≡◌};
 ghost use Rattle.engine.specs.Calls.{Batches};
 ghost use Rattle.engine.specs.Model.{Model, model_of};
 
+use crate::station::Station;
 use batch::Direction;
 use cipher::{Cipher, TailRule};
-use engine::{Engine, EngineFault};
+use engine::EngineFault;
 use shelf::Shelf;
 
 /// An engine whose services are open and hold their words.
@@ -27,8 +28,8 @@ pub trait Element {
         ensures { Batches direction (model self.now) area.old batch.old result area.new batch.new (model self.now) };
 }
 
-impl<C: Cipher, T: TailRule, S: Shelf> Element for Engine<C, T, S> {
-    ghost model = { model_of C.Cipher T.TailRule S.Shelf };
+impl<C: Cipher, T: TailRule, S: Shelf> Element for Station<'_, C, T, S> {
+    ghost model = { λ s. model_of C.Cipher T.TailRule S.Shelf s.services.now.engine };
 
     fn area_len(&self) -> usize {
         C::SCHEDULE
@@ -41,8 +42,8 @@ impl<C: Cipher, T: TailRule, S: Shelf> Element for Engine<C, T, S> {
         batch: &mut [u8],
     ) -> Result<(usize, usize), EngineFault> {
         match direction {
-            Direction::Scramble => self.scramble(area, batch),
-            Direction::Descramble => self.descramble(area, batch),
+            Direction::Scramble => self.services.engine.scramble(area, batch),
+            Direction::Descramble => self.services.engine.descramble(area, batch),
         }
     }
 }

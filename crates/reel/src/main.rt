@@ -6,6 +6,7 @@ mod element;
 mod logged;
 mod report;
 mod services;
+mod station;
 mod stream;
 mod tally;
 mod task;

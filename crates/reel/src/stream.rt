@@ -1,4 +1,6 @@
 // A stream, in batches of 64 packets, so that memory does not grow with it.
+ghost use Rattle.std.specs.Prelude.{◌≤◌, length, IfOk};
+
 use crate::command::{Command, Place};
 use crate::element::Element;
 use crate::report;
@@ -143,24 +145,19 @@ impl<'a> Run<'a> {
         Ok(())
     }
 
-    // A pipe gives a few bytes at a time: a batch is there once it is full or the input ends.
     fn each_batch<R: Read, F>(&mut self, input: &mut R, mut work: F) -> anyhow::Result<()>
     where
         F: FnMut(&mut Run<'a>, &mut [u8]) -> anyhow::Result<()> + Drop,
         requires { F.IsAlwaysCallable work }
     {
-        let mut batch = Vec::with_capacity(self.rt.alloc(), MAX_BATCH_LEN)?;
+        let mut buffer = [0; MAX_BATCH_LEN];
         // No stream has so many batches: a loop that reads to the end of its input has a bound, so that every call ends.
         for _ in 0..u64::MAX {
-            batch.clear();
-            input
-                .by_ref()
-                .take(MAX_BATCH_LEN as u64)
-                .read_to_end(&mut batch)?;
-            if batch.is_empty() {
+            let n = fill(input, &mut buffer)?;
+            if n == 0 {
                 break;
             }
-            work(self, batch.as_mut_slice())?;
+            work(self, &mut buffer[0..n])?;
             self.advance()?;
         }
         Ok(())
@@ -249,4 +246,20 @@ fn opened(rt: &HostRuntime, path: &str) -> anyhow::Result<File> {
             Err(anyhow!("the stream cannot be opened"))
         }
     }
+}
+
+// Reads until the buffer is full or the input ends, and answers how many bytes came.
+// A pipe gives a few bytes at a time. Not by `read_to_end`, of which no clause says that a batch is not longer.
+fn fill<R: Read>(input: &mut R, buffer: &mut [u8]) -> io::Result<usize>
+    ensures { IfOk result (λ n. n ≤ length buffer.old) }
+{
+    let mut filled = 0;
+    while filled < buffer.len() {
+        let n = input.read(&mut buffer[filled..])?;
+        if n == 0 {
+            break;
+        }
+        filled += n;
+    }
+    Ok(filled)
 }

@@ -1,8 +1,13 @@
 // A task, at engines that hold the words.
+ghost use Rattle.std.specs.Prelude.{◌≡◌, true, OnOk};
+ghost use Rattle.engine.specs.Model.{is_open, slots_of};
+ghost use Rattle.reel.specs.Ready.{ready};
+
 use crate::command::{Command, KeySource, Keys, Task};
 use crate::logged::{KeyRing, load_log};
 use crate::report::Source;
 use crate::services::{Services, ServicesFault};
+use crate::station::Station;
 use crate::stream::Run;
 use anyhow::anyhow;
 use cipher::{Cipher, Profile, TailRule};
@@ -66,18 +71,29 @@ fn with_words<C: Cipher, T: TailRule, S: Shelf>(
     words: &Words,
 ) -> anyhow::Result<()> {
     let mut run = Run::new(rt, command);
-    load(rt, &run, near, words)?;
+    let near = loaded(rt, &run, near, words)?;
     match &command.task {
-        Task::Convert { direction, output } => run.convert(&near.engine, *direction, output)?,
+        Task::Convert { direction, output } => run.convert(&near, *direction, output)?,
         Task::Rehearse { shows_packets } => {
             // That a stream comes back is proved of every stream: the contract says so.
             every_run_is_lawful::<C, T, S, C, T, S>();
-            load(rt, &run, far, words)?;
-            run.rehearse(&near.engine, &far.engine, *shows_packets)?;
+            let far = loaded(rt, &run, far, words)?;
+            run.rehearse(&near, &far, *shows_packets)?;
         }
     }
     run.report(words.source())?;
     Ok(())
+}
+
+// The services with the words loaded, or why that is refused.
+fn loaded<'a, C: Cipher, T: TailRule, S: Shelf>(
+    rt: &HostRuntime,
+    run: &Run<'_>,
+    services: &'a mut Services<C, T, S>,
+    words: &'a Words,
+) -> anyhow::Result<Station<'a, C, T, S>> {
+    load(rt, run, services, words)?;
+    Ok(Station { services, words })
 }
 
 // Opens the services, joins the PIDs and loads the words, or says what was refused.
@@ -86,7 +102,9 @@ fn load<C: Cipher, T: TailRule, S: Shelf>(
     run: &Run<'_>,
     services: &mut Services<C, T, S>,
     words: &Words,
-) -> anyhow::Result<()> {
+) -> anyhow::Result<()>
+    ensures { OnOk result (ready words.now (slots_of services.new.engine.desk) ≡ true) }
+{
     match words {
         KeySource::Given(keys) => match load_keys(services, keys) {
             Ok(()) => Ok(()),
@@ -101,7 +119,9 @@ fn load<C: Cipher, T: TailRule, S: Shelf>(
 fn load_keys<C: Cipher, T: TailRule, S: Shelf>(
     services: &mut Services<C, T, S>,
     keys: &Keys,
-) -> Result<(), ServicesFault> {
+) -> Result<(), ServicesFault>
+    ensures { OnOk result (is_open (slots_of services.new.engine.desk 0) ≡ true) }
+{
     services.open(0)?;
     services.load_and_pick(0, keys.parity, &keys.word.to_bytes(), 0)?;
     services.join_all(0, keys.pids.as_slice())?;
