@@ -1,4 +1,4 @@
-use Rattle.std.proofs.Common.{◌≡◌, ◌+◌, ◌*◌, ◌%◌, length, get_or, refl, ap, ◌∙◌, arith}
+use Rattle.std.proofs.Common.{◌≡◌, ℕ, ◌+◌, ◌*◌, ◌%◌, ◌++◌, length, get_or, take, drop, set, refl, ap, ◌∙◌, arith}
 use Rattle.cipher.specs.Profiles.{meaning}
 use Rattle.packet.specs.Header.{control_bits, with_control}
 use Rattle.packet.specs.declared.header.ScramblingControl.{ScramblingControl}
@@ -14,6 +14,7 @@ returns g c =
     let marked = c.set_control.new.packet in
     let is = c.set_control.ensures ∙ ap (λ (k : ScramblingControl). with_control k p) c.control_after.ensures in
     let long : length marked ≡ 188 = c.set_control.auto.packet ∙ c.requires.size in
-    marked_put (payload_after c.args.self.now.direction m how.word) p marked c.process_payload.new.payload how.start (length marked)
-    (control_bits (control_after c.args.self.now.direction how.parity) * 64 + get_or p 3 0 % 64) refl (omega arith) (omega arith) is
-    (c.process_payload.ensures.after how.word c.requires.prepared)
+    let f = payload_after c.args.self.now.direction m how.word in
+    let v = control_bits (control_after c.args.self.now.direction how.parity) * 64 + get_or p 3 0 % 64 in
+    marked_put f p marked c.process_payload.new.payload _ (length marked) v refl (omega arith) (omega arith) is (c.process_payload.ensures.after how.word c.requires.prepared)
+    ∙ ap (λ (a : ℕ). take a (set p 3 v) ++ f (drop a p)) (grind arith)

@@ -1,4 +1,5 @@
-use Rattle.std.proofs.Common.{◌≡◌, None, refl, sym, ◌∙◌}
+use Rattle.std.proofs.Common.{◌≡◌, None, refl, sym, ◌∙◌, arith}
+use Rattle.std.proofs.lemmas.Grind.{common_steps}
 use Rattle.word.specs.declared.parity.Parity.{Parity}
 use Rattle.word.specs.declared.parity.Parity.TheVariants.{Even, Odd}
 use Rattle.shelf.specs.declared.plain.Row.{Row}
@@ -13,4 +14,4 @@ nothing r Odd h = h.1
 pub returns : goal.returns
 returns c = λ k q.
     let none = nothing empty q (refl, refl) in
-    at_replicate (λ (r : Row). side r q) 32 k _ empty (nothing _ q c.default.ensures ∙ sym none) ∙ none
+    at_replicate (λ (r : Row). side r q) 32 k _ empty (nothing _ q (grind (arith, common_steps, c.default.ensures)) ∙ sym none) ∙ none
